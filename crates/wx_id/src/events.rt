@@ -1,0 +1,30 @@
+use crate::numbers::{ChannelNo, EntryNo};
+
+/// What an event tells the context that takes it.
+#[derive(Clone, Copy, Debug, PartialEq, Eq)]
+pub enum EventKind {
+    /// A channel was opened to it (`runtime.onConnect`).
+    Connected(ChannelNo),
+    /// A message was posted to it (`Port.onMessage`).
+    Message(ChannelNo),
+    /// The other side closed the channel (`Port.onDisconnect`).
+    Disconnected(ChannelNo),
+}
+
+/// An event of a context, with the entry that delivered it.
+#[derive(Clone, Copy, Debug, PartialEq, Eq)]
+pub struct Event {
+    pub entry: EntryNo,
+    pub kind: EventKind,
+}
+
+/// What a context is to a channel.
+#[derive(Clone, Copy, Debug, PartialEq, Eq)]
+pub enum End {
+    /// It opened the channel.
+    Opener,
+    /// The channel was opened to it.
+    Receiver,
+    /// It has no part in the channel.
+    Neither,
+}

@@ -1,0 +1,12 @@
+//! Names, numbers and events that every layer of the messaging broker speaks of.
+#![tactic(auto)]
+
+mod events;
+mod extension;
+mod numbers;
+mod texts;
+
+pub use events::{End, Event, EventKind};
+pub use extension::{BadId, ExtensionId};
+pub use numbers::{ChannelNo, ContextNo, EntryNo, FrameId, HostNo, RequestNo, TabId};
+pub use texts::{NoMemory, Utf8Text};
