@@ -4,6 +4,8 @@
 mod events;
 mod extension;
 mod numbers;
+#[cfg(test)]
+mod tests;
 mod texts;
 
 pub use events::{End, Event, EventKind};
