@@ -1,0 +1,3 @@
+pub mod SceneValue
+pub mod Places
+pub mod Carries

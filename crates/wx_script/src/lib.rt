@@ -1,0 +1,8 @@
+//! Scenes: their text, and the scripts of their endpoints.
+#![tactic(auto)]
+
+mod scene;
+mod script;
+
+pub use scene::{Scene, SceneEndpoint, SceneExtension, SceneFault, SceneKind, SceneReadFault};
+pub use script::{Act, Script, Var};
