@@ -7,7 +7,7 @@ use Rattle.wx_outside.specs.Causes.{Rose}
 use Rattle.wx_outside.specs.declared.shelf.Found.{Found}
 use Rattle.wx_outside.specs.declared.shelf.Found.TheVariants.{Bytes, Missing, Large}
 use Rattle.wx_outside.specs.declared.shelf.ShelfFault.{ShelfFault}
-use Rattle.wx_outside.specs.declared.shelf.ShelfFault.TheVariants.{Failed, NoMemory}
+use Rattle.wx_outside.specs.declared.shelf.ShelfFault.TheVariants.{Failed}
 
 -- from names to bytes
 abbrev pub Files : Type 0
@@ -33,6 +33,12 @@ limit = 67108864
 abbrev pub content_of : Option (List ℕ) → Content
 content_of None = absent
 content_of (Some bytes) = if nat_lt limit (length bytes) then too_large else present bytes
+
+-- bytes that are handed out are within the limit
+abbrev pub IsWithinLimit : Content → Type 0
+IsWithinLimit (present bytes) = length bytes ≤ limit
+IsWithinLimit absent = Unit {0}
+IsWithinLimit too_large = Unit {0}
 
 -- what these files have under a name
 abbrev pub content_at : Files → List ℕ → Content

@@ -1,4 +1,5 @@
-ghost use Rattle.std.specs.Prelude.{◌≡◌, ℕ, Option, None};
+ghost use Rattle.std.specs.Prelude.{◌≡◌, None, IfOk};
+ghost use Rattle.wx_outside.specs.Shelf.{content, IsWithinLimit};
 
 use crate::shelf::{Found, LIMIT, Shelf, ShelfFault};
 use std::alloc::Global;
@@ -26,7 +27,9 @@ impl<'a, R: Files + Input> FileShelf<'a, R> {
 const PIECE: usize = 4096;
 
 /// All that the source gives, unless it gives more than the limit. A read that a signal interrupted is tried again.
-fn read_whole<S: Read>(alloc: Global, source: &mut S) -> Result<Found, ShelfFault> {
+fn read_whole<S: Read>(alloc: Global, source: &mut S) -> Result<Found, ShelfFault>
+    ensures { IfOk result (λ found. IsWithinLimit (content found)) }
+{
     let mut bytes: Vec<u8> = Vec::new(alloc);
     let mut piece = [0u8; PIECE];
     for _ in 0..u64::MAX {
@@ -53,7 +56,9 @@ fn open_and_read<R: Files + Input>(
     runtime: &R,
     alloc: Global,
     name: &str,
-) -> Result<Found, ShelfFault> {
+) -> Result<Found, ShelfFault>
+    ensures { IfOk result (λ found. IsWithinLimit (content found)) }
+{
     if name == "-" {
         return read_whole(alloc, &mut runtime.reader());
     }

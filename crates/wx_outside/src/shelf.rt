@@ -25,8 +25,8 @@ pub enum ShelfFault {
 
 /// Files under names. Some shelves tell what they hold; what a file system holds is not known.
 pub trait Shelf {
-    ghost use Rattle.std.specs.Prelude.{◌≡◌, ℕ, Option};
-    ghost use Rattle.wx_outside.specs.Shelf.{Files, Reads, HasCause};
+    ghost use Rattle.std.specs.Prelude.{◌≡◌, ℕ, Option, IfOk};
+    ghost use Rattle.wx_outside.specs.Shelf.{Files, content, Reads, IsWithinLimit, HasCause};
 
     /// The files, where it tells them.
     ghost files: { Self → Option Files };
@@ -41,6 +41,7 @@ pub trait Shelf {
     /// What stands under a name.
     fn read(&mut self, alloc: Global, name: &str) -> Result<Found, ShelfFault>
         ensures reads { Reads (files self.old) name.now result }
+        ensures within { IfOk result (λ found. IsWithinLimit (content found)) }
         ensures unchanged { files self.new ≡ files self.old }
         ensures cause { HasCause (faults self.old) (faults self.new) result };
 }

@@ -1,4 +1,7 @@
-use crate::{Failed, FileShelf, Found, MemoryFile, MemoryShelf, MemorySink, Shelf, ShelfFault, Sink, StreamSink};
+use crate::{
+    Failed, FileShelf, Found, MemoryFile, MemoryShelf, MemorySink, Shelf, ShelfFault, Sink,
+    StreamSink,
+};
 use std::alloc::Global;
 use std::test::Fail;
 use std::{fs, io};
