@@ -4,6 +4,8 @@
 mod contexts;
 mod entries;
 pub mod laws;
+#[cfg(test)]
+mod tests;
 mod texts;
 mod world;
 
