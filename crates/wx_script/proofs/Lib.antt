@@ -1,0 +1,4 @@
+pub mod WordLemmas
+pub mod Again
+pub mod LineLemmas
+pub mod Spelled
