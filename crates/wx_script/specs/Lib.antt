@@ -6,3 +6,7 @@ pub mod Line
 pub mod Spelling
 pub mod View
 pub mod Names
+pub mod Draft
+pub mod Adding
+pub mod Scene
+pub mod Reading

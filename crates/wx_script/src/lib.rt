@@ -1,7 +1,9 @@
 //! Scenes: their text, and the scripts of their endpoints.
 #![tactic(auto)]
 
+mod draft;
 mod line;
+mod reading;
 mod scene;
 mod script;
 mod word;
