@@ -1,0 +1,6 @@
+pub mod Words
+pub mod Status
+pub mod Lines
+pub mod Verdict
+pub mod View
+pub mod Told

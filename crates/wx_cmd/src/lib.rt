@@ -1,0 +1,9 @@
+//! The top call: it reads the words of the command line, runs the scene that they name, and tells what came of it.
+#![tactic(auto)]
+
+mod lines;
+mod status;
+mod tell;
+mod words;
+
+pub use status::Status;
