@@ -166,3 +166,6 @@ line_read text l e =
           subst (λ l. IsReadAs l text) l_is (record { is_line = c.is_command; spelled = front text (codes "  ") h.0 ∙ ap (λ t. codes "  " ++ t) c.spelled })
       | inr h ↦ declaration_read text l h.1
     ]
+
+pub one_spelling : (text : List ℕ) (l : Line) → line_at text ≡ Some l → IsLine l × (text ≡ spelling l)
+one_spelling text l e = let r = line_read text l e in (r.is_line, r.spelled)

@@ -10,3 +10,4 @@ pub mod Draft
 pub mod Adding
 pub mod Scene
 pub mod Reading
+pub mod Examples

@@ -2,10 +2,13 @@
 #![tactic(auto)]
 
 mod draft;
+pub mod laws;
 mod line;
 mod reading;
 mod scene;
 mod script;
+#[cfg(test)]
+mod tests;
 mod word;
 
 pub use scene::{Scene, SceneEndpoint, SceneExtension, SceneFault, SceneKind, SceneReadFault};
