@@ -4,6 +4,8 @@
 mod lines;
 mod status;
 mod tell;
+mod top;
 mod words;
 
 pub use status::Status;
+pub use top::wx;
