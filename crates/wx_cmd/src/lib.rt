@@ -4,6 +4,8 @@
 mod lines;
 mod status;
 mod tell;
+#[cfg(test)]
+mod tests;
 mod top;
 mod words;
 
