@@ -26,23 +26,30 @@ def random_scene(rng):
 
 
 def mutated_scene(rng, scene):
-    text = bytearray(scene)
-    for _ in range(rng.randrange(1, 5)):
-        place = rng.randrange(len(text))
-        change = rng.randrange(4)
+    """The scene with one to three changes: half of them of whole lines, which often leave a scene."""
+    lines = scene.split(b"\n")
+    for _ in range(rng.randrange(1, 4)):
+        place = rng.randrange(len(lines))
+        change = rng.randrange(6)
+        line = bytearray(lines[place])
         if change == 0:
-            text[place] = rng.randrange(256)
+            del lines[place]
         elif change == 1:
-            del text[place]
+            lines.insert(place, lines[rng.randrange(len(lines))])
         elif change == 2:
-            text.insert(place, rng.choice(ALPHABET))
+            other = rng.randrange(len(lines))
+            lines[place], lines[other] = lines[other], lines[place]
+        elif change == 3 and line:
+            line[rng.randrange(len(line))] = rng.randrange(256)
+        elif change == 4 and line:
+            del line[rng.randrange(len(line))]
         else:
-            lines = bytes(text).split(b"\n")
-            rng.shuffle(lines)
-            text = bytearray(b"\n".join(lines))
-        if not text:
-            text = bytearray(scene)
-    return bytes(text)
+            line.insert(rng.randrange(len(line) + 1), rng.choice(ALPHABET))
+        if change > 2:
+            lines[place] = bytes(line)
+        if not lines:
+            lines = scene.split(b"\n")
+    return b"\n".join(lines)
 
 
 def is_well_ended(scene):
