@@ -111,12 +111,7 @@ fn place_of(channels: &[Utf8Text], name: &str) -> Option<usize>
     None
 }
 
-fn add_extension(
-    draft: &mut Draft,
-    alloc: Global,
-    name: &str,
-    id: &[u8],
-) -> Result<(), LineFault>
+fn add_extension(draft: &mut Draft, alloc: Global, name: &str, id: &[u8]) -> Result<(), LineFault>
     ensures { Makes (so_far draft.new) result (extension_added (so_far draft.old) name.now id.now) }
 {
     let Ok(id) = ExtensionId::read(id) else {
@@ -131,12 +126,7 @@ fn add_extension(
 }
 
 /// The endpoint of a page, with no command yet.
-fn page(
-    alloc: Global,
-    name: &str,
-    ext: ExtensionId,
-    path: &str,
-) -> Result<SceneEndpoint, LineFault>
+fn page(alloc: Global, name: &str, ext: ExtensionId, path: &str) -> Result<SceneEndpoint, LineFault>
     requires { IsTrue (is_page_path path.now) }
     ensures { MatchResult result (λ e. (e.name ≡ name.now) × (e.context ≡ context.Page ext path.now) × (e.script ≡ [])) (λ e. e ≡ LineFault.NoMemory) }
 {

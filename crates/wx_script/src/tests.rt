@@ -31,27 +31,72 @@ fn faults_and_their_lines(rt: HostRuntime) -> Result<(), Fail> {
         ("", "\n", 2, SceneKind::Form),
         ("", "# a scene\n", 2, SceneKind::Form),
         ("", "extension x abc\n", 2, SceneKind::Id),
-        ("", "extension x aaaaaaaaaaaaaaaaaaaaaaaaaaaaaaaq\n", 2, SceneKind::Id),
-        ("", "extension X aaaaaaaaaaaaaaaaaaaaaaaaaaaaaaaa\n", 2, SceneKind::Form),
-        ("", "extension same aaaaaaaaaaaaaaaaaaaaaaaaaaaaaaaa\n", 2, SceneKind::Form),
-        ("", "extension a23456789012345678901234567890123 abc\n", 2, SceneKind::Form),
-        ("", "extension a2345678901234567890123456789012 abc\n", 2, SceneKind::Id),
+        (
+            "",
+            "extension x aaaaaaaaaaaaaaaaaaaaaaaaaaaaaaaq\n",
+            2,
+            SceneKind::Id,
+        ),
+        (
+            "",
+            "extension X aaaaaaaaaaaaaaaaaaaaaaaaaaaaaaaa\n",
+            2,
+            SceneKind::Form,
+        ),
+        (
+            "",
+            "extension same aaaaaaaaaaaaaaaaaaaaaaaaaaaaaaaa\n",
+            2,
+            SceneKind::Form,
+        ),
+        (
+            "",
+            "extension a23456789012345678901234567890123 abc\n",
+            2,
+            SceneKind::Form,
+        ),
+        (
+            "",
+            "extension a2345678901234567890123456789012 abc\n",
+            2,
+            SceneKind::Id,
+        ),
         ("", "  take\n", 2, SceneKind::Order),
         ("", "page p x /p\n", 2, SceneKind::Unknown),
         ("", "page  p x /p\n", 2, SceneKind::Form),
         ("", "page p x p\n", 2, SceneKind::Form),
         ("", "page p x /p \n", 2, SceneKind::Form),
         ("", "host e.json\n", 2, SceneKind::Form),
-        (X, "extension y aaaaaaaaaaaaaaaaaaaaaaaaaaaaaaaa\n", 3, SceneKind::Repeated),
-        (X, "extension x aaaaaaaaaaaaaaaaaaaaaaaaaaaaaaab\n", 3, SceneKind::Repeated),
+        (
+            X,
+            "extension y aaaaaaaaaaaaaaaaaaaaaaaaaaaaaaaa\n",
+            3,
+            SceneKind::Repeated,
+        ),
+        (
+            X,
+            "extension x aaaaaaaaaaaaaaaaaaaaaaaaaaaaaaab\n",
+            3,
+            SceneKind::Repeated,
+        ),
         (page, "page p nobody /p\n", 4, SceneKind::Repeated),
         (page, "page q nobody /p\n", 4, SceneKind::Unknown),
         (page, "  post ch 1\n", 4, SceneKind::Unbound),
         (page, "  disconnect ch\n", 4, SceneKind::Unbound),
-        (page, "  connect ch own\npage q x /q\n  post ch 1\n", 6, SceneKind::Unbound),
+        (
+            page,
+            "  connect ch own\npage q x /q\n  post ch 1\n",
+            6,
+            SceneKind::Unbound,
+        ),
         (page, "  connect ch own\n  post ch 01\n", 5, SceneKind::Form),
         (page, "  connect ch own\n  post ch  1\n", 5, SceneKind::Form),
-        (page, "  connect ch own\n  post ch 1\r\n", 5, SceneKind::Form),
+        (
+            page,
+            "  connect ch own\n  post ch 1\r\n",
+            5,
+            SceneKind::Form,
+        ),
         (page, "  connect same own\n", 4, SceneKind::Form),
         (page, "  connect ch own name n\n", 4, SceneKind::Form),
         (page, "  listen message\n", 4, SceneKind::Form),
@@ -135,7 +180,8 @@ fn is_page(context: &Context, wanted: &str) -> bool {
 
 #[test]
 fn two_pages(rt: HostRuntime) {
-    let lines = "extension x aaaaaaaaaaaaaaaaaaaaaaaaaaaaaaaa\npage q x /q\n  connect ch own\n  post ch 10\n  disconnect ch\npage p x /p\n  listen connect\n  listen none\n  take\n";
+    let lines =
+        "extension x aaaaaaaaaaaaaaaaaaaaaaaaaaaaaaaa\npage q x /q\n  connect ch own\n  post ch 10\n  disconnect ch\npage p x /p\n  listen connect\n  listen none\n  take\n";
     let Ok(scene) = read_behind_head(rt.alloc(), lines) else {
         assert!(rt; false);
         return;
@@ -146,7 +192,11 @@ fn two_pages(rt: HostRuntime) {
             assert_eq!(rt; q.name.as_str(), "q");
             assert!(rt; is_page(&q.context, "/q") && is_page(&p.context, "/p"));
             match q.script.acts() {
-                [Act::Connect(a, _, name), Act::Post(b, number), Act::Disconnect(c)] => {
+                [
+                    Act::Connect(a, _, name),
+                    Act::Post(b, number),
+                    Act::Disconnect(c),
+                ] => {
                     assert!(rt; a.0 == 0 && b.0 == 0 && c.0 == 0);
                     assert!(rt; name.as_str() == "" && number.bytes() == b"10".as_slice());
                 }
