@@ -25,6 +25,7 @@ pub record IsBelow (n : ℕ) (e : Entry) : Type 0 where
   pub own : e.who ≡ ByContext c
   pub below : c.0 < n
 
+-- each entry is by a context below n
 abbrev pub AreBelow : ℕ → List Entry → Type 0
 AreBelow n [] = Unit {0}
 AreBelow n (e ∷ past) = AreBelow n past × IsBelow n e

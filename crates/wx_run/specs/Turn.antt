@@ -26,6 +26,7 @@ pub record Rests (old new : Place) (before after : List Entry) : Type 0 where
   pub same_place : new ≡ old
   pub same : after ≡ before
 
+-- a turn of context c that came to this
 abbrev pub IsTurn : World → ContextNo → Place → Place → List Entry → List Entry → Turned → Type 0
 IsTurn world c old new before after Moved = Moves world c old new before after
 IsTurn world c old new before after Ended = Rests old new before after

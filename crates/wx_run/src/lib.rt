@@ -5,6 +5,8 @@ mod cursor;
 mod opening;
 mod rounds;
 mod run;
+#[cfg(test)]
+mod tests;
 
 pub use cursor::{Cursor, Turned, turn};
 pub use opening::open;
