@@ -16,6 +16,7 @@ pub mod Table
 pub mod Parts
 pub mod Closing
 pub mod Ends
+pub mod Leading
 pub mod OneFault
 pub mod Vectors
 pub mod Lanes
