@@ -1,5 +1,5 @@
 -- The end of a container, and a comma, at a check's fields.
-use Rattle.std.proofs.Common.{◌≡◌, ℕ, suc, ◌+◌, ◌-◌, ◌≤◌, List, [], ◌∷◌, Bool, true, false, refl, ap, ◌∙◌, sym, arith, add-one}
+use Rattle.std.proofs.Common.{◌≡◌, ℕ, suc, ◌+◌, ◌-◌, ◌≤◌, List, Bool, true, false, refl, arith, add-one}
 use Rattle.wx_json.specs.Mode.{Mode}
 use Rattle.wx_json.specs.Coding.{Coding}
 use Rattle.wx_json.specs.States.{mode_of, coding_of, went, closed_empty, closed, separated}

@@ -1,8 +1,8 @@
 -- How bytes that lead from state to state are joined.
 use Rattle.std.proofs.Common.{◌≡◌, ℕ, suc, ◌+◌, ◌-◌, ◌<◌, ◌≤◌, List, length, take, drop, get_or, Bool, true, false, refl, ap, ◌∙◌, sym, subst, arith}
-use Rattle.std.specs.Prelude.{◌==◌, nat_le}
-use Rattle.std.proofs.lemmas.Bool.{le-leb, eqb-true}
-use Rattle.wx_json.specs.Check.{running, advance, advances}
+use Rattle.std.specs.Prelude.{◌==◌}
+use Rattle.std.proofs.lemmas.Bool.{eqb-true}
+use Rattle.wx_json.specs.Check.{running}
 use Rattle.wx_json.specs.Mode.{Mode}
 use Rattle.wx_json.specs.Coding.{Coding}
 use Rattle.wx_json.specs.States.{is_state, mode_of, coding_of, went, entered, next_of, LeadsAt, Asks, CommaLeads}
@@ -14,7 +14,7 @@ module _ (σ : List Bool) (piece : List ℕ) (i : ℕ) (s t : ℕ) where
   leads-joined u j e a b first second = λ k n.
       let far : k + (j - i) + (e - j) ≡ k + (e - i) = omega arith in
       sym (joined (running k (coding_of s) (mode_of s) n σ) (running (k + (j - i)) (coding_of t) (mode_of t) n σ) (running (k + (e - i)) (coding_of u) (mode_of u) n σ) piece i j e a b (sym (first k n))
-        (ap (λ k. running k (coding_of u) (mode_of u) n σ) (sym far) ∙ sym (second (k + (j - i)) n)))
+      (ap (λ k. running k (coding_of u) (mode_of u) n σ) (sym far) ∙ sym (second (k + (j - i)) n)))
 
   -- from i to e, then the byte at e, by an entry that is a state or leads to one
   pub leads-more : (u x : ℕ) (e : ℕ) → i ≤ e → e < length piece → LeadsAt σ s t (take (e - i) (drop i piece)) (e - i) → Asks x t (get_or piece e 0)
@@ -23,7 +23,7 @@ module _ (σ : List Bool) (piece : List ℕ) (i : ℕ) (s t : ℕ) where
   leads-more u x e a b first asks goes = λ k n.
       let far : suc (k + (e - i)) ≡ k + (e + 1 - i) = omega arith in
       sym (one_more (running k (coding_of s) (mode_of s) n σ) (running (k + (e - i)) (coding_of t) (mode_of t) n σ) (running (k + (e + 1 - i)) (coding_of u) (mode_of u) n σ) piece i e a b (sym (first k n))
-        (ap (λ k. running k (coding_of u) (mode_of u) n σ) (sym far) ∙ sym (goes (k + (e - i)) n (coding_of t) (mode_of t)) ∙ asks (k + (e - i)) n σ))
+      (ap (λ k. running k (coding_of u) (mode_of u) n σ) (sym far) ∙ sym (goes (k + (e - i)) n (coding_of t) (mode_of t)) ∙ asks (k + (e - i)) n σ))
 
 -- an entry that leads to a state
 pub next_of-entered : (x after_comma k n : ℕ) (v : Coding) (m : Mode) (σ : List Bool) → 64 ≤ next_of x after_comma → CommaLeads after_comma σ → entered x (running k v m n σ) ≡ went (next_of x after_comma) (running k v m n σ)

@@ -11,7 +11,7 @@ use Rattle.wx_json.specs.Coding.{whole}
 use Rattle.wx_json.specs.Mode.{Mode}
 use Rattle.wx_json.specs.Coding.{Coding}
 use Rattle.wx_json.specs.Mode.{text}
-use Rattle.wx_json.specs.Check.{Progress, running, advance, advances}
+use Rattle.wx_json.specs.Check.{running, advance, advances}
 
 none_of : (a b : Bool) → not (a || b) ≡ true → (a ≡ false) × (b ≡ false)
 none_of true b h = cc

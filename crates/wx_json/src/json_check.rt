@@ -197,10 +197,8 @@ impl JsonCheck {
         requires running { IsRunning self.old }
         ensures { self.new ≡ refused kind self.old }
     {
-        self.fault = Some(JsonFault {
-            place: self.taken,
-            kind,
-        });
+        let place = self.taken;
+        self.fault = Some(JsonFault { place, kind });
     }
 
     #[inline(always)]

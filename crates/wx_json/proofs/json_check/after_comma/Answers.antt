@@ -1,5 +1,4 @@
-use Rattle.std.proofs.Common.{◌∙◌, sym, refl}
-use Rattle.wx_json.specs.States.{is_state}
+use Rattle.std.proofs.Common.{◌∙◌, sym}
 use Rattle.wx_json.proofs.Closing.{separated-name, separated-value}
 use Rattle.wx_json.proofs.json_check.after_comma.Goals as goal
 

@@ -1,4 +1,4 @@
-use Rattle.std.proofs.Common.{◌^◌, ◌<◌, ◌≤◌, arith}
+use Rattle.std.proofs.Common.{◌≤◌, arith}
 use Rattle.wx_json.proofs.Table.{state_bounds}
 use Rattle.wx_json.proofs.Parts.{entered-went}
 use Rattle.wx_json.proofs.Leading.{leads-more}

@@ -1,6 +1,5 @@
-use Rattle.std.proofs.Common.{◌≡◌, ◌+◌, ◌-◌, ◌<◌, ◌≤◌, ◌∙◌, sym, ap, take, drop, length, arith}
-use Rattle.wx_json.specs.Check.{running}
-use Rattle.wx_json.specs.States.{went, next_of, LeadsAt, CommaLeads}
+use Rattle.std.proofs.Common.{◌<◌, ◌≤◌, length, arith}
+use Rattle.wx_json.specs.States.{next_of}
 use Rattle.wx_json.proofs.Leading.{leads-joined, leads-more, next_of-entered, next_of-state}
 use Rattle.wx_json.proofs.transitions.travel.Goals as goal
 
@@ -22,9 +21,9 @@ loop-at-preserved c =
       omega (arith, l.invariant.1, skip.ensures.bounds.0, stop.ensures.bounds.0),
       omega (arith, inside),
       λ σ comma. rw is (leads-more σ c.args.piece.now c.args.from c.args.start stop.result.state next stop.result.entry stop.result.at (omega (arith, l.invariant.1, skip.ensures.bounds.0, stop.ensures.bounds.0)) inside
-        (leads-joined σ c.args.piece.now c.args.from c.args.start l.state stop.result.state skip.result stop.result.at (omega (arith, l.invariant.1, skip.ensures.bounds.0)) stop.ensures.bounds.0
+          (leads-joined σ c.args.piece.now c.args.from c.args.start l.state stop.result.state skip.result stop.result.at (omega (arith, l.invariant.1, skip.ensures.bounds.0)) stop.ensures.bounds.0
           (leads-joined σ c.args.piece.now c.args.from c.args.start l.state l.state l.at skip.result l.invariant.1 skip.ensures.bounds.0 (l.invariant.3 σ comma) (skip.ensures.value σ))
           (stop.ensures.value σ))
-        (stop.ensures.next inside)
-        (λ k n v m. next_of-entered stop.result.entry c.args.after_comma k n v m σ high comma)),
+          (stop.ensures.next inside)
+          (λ k n v m. next_of-entered stop.result.entry c.args.after_comma k n v m σ high comma)),
     )

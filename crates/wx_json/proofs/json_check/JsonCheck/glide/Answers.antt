@@ -1,4 +1,4 @@
-use Rattle.std.proofs.Common.{◌+◌, ◌-◌, take, drop}
+use Rattle.std.proofs.Common.{◌-◌, take, drop}
 use Rattle.wx_json.specs.Levels.{kinds_of}
 use Rattle.wx_json.specs.States.{mode_of, coding_of}
 use Rattle.wx_json.specs.Check.{running, advances}

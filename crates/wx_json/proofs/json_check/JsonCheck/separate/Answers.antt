@@ -1,4 +1,4 @@
-use Rattle.std.proofs.Common.{◌+◌, ◌-◌, ◌∙◌, sym, arith}
+use Rattle.std.proofs.Common.{◌-◌, ◌∙◌, sym}
 use Rattle.wx_json.specs.Levels.{kinds_of}
 use Rattle.wx_json.specs.States.{mode_of, coding_of, went, separated}
 use Rattle.wx_json.specs.Check.{running}
