@@ -22,3 +22,4 @@ pub mod Vectors
 pub mod Lanes
 pub mod Runs
 pub mod PlainRuns
+pub mod TestLaws

@@ -10,3 +10,4 @@ pub mod States
 pub mod Levels
 pub mod View
 pub mod Plain
+pub mod Test

@@ -1,4 +1,5 @@
-ghost use Rattle.std.specs.Prelude.{◌≡◌, length, IfOk, IfErr};
+ghost use Rattle.std.specs.Prelude.{◌≡◌, ◌↔◌, length, IsTrue, IsOk, IfOk, IfErr};
+ghost use Rattle.wx_json.specs.Test.{is_json_text};
 ghost use Rattle.wx_json.specs.Text.{IsJsonText, IsEndFault};
 ghost use Rattle.wx_json.specs.Check.{Stands};
 
@@ -7,7 +8,7 @@ use std::marker::Model;
 use wx_id::NoMemory;
 
 /// A JSON text, as its bytes.
-#[derive(Drop)]
+#[derive(Debug, Drop)]
 pub struct JsonText {
     items: Vec<u8>,
 }
@@ -25,7 +26,9 @@ impl Model for JsonText {
 
 impl JsonText {
     /// The bytes as a text, or the fault and the bytes.
+    #[tactic(auto, using(crate::proofs::TestLaws::is_json_text_by))]
     pub fn new(bytes: Vec<u8>) -> Result<JsonText, (JsonFault, Vec<u8>)>
+        ensures exact { IsOk result ↔ IsTrue (is_json_text bytes.items) }
         ensures ok { IfOk result (λ text. (text ≡ bytes.items) × IsJsonText bytes.items) }
         ensures err { IfErr result (λ refused. IsEndFault bytes.items refused.0 × (refused.1.items ≡ bytes.items)) }
     {

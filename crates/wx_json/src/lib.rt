@@ -1,7 +1,8 @@
 //! JSON texts of RFC 8259, checked piece by piece and carried as they are.
 #![tactic(auto)]
 
-ghost use Rattle.std.specs.Prelude.{◌≡◌, ℕ, ◌++◌, List, MatchResult};
+ghost use Rattle.std.specs.Prelude.{◌≡◌, ◌↔◌, ℕ, ◌++◌, List, IsTrue, MatchResult};
+ghost use Rattle.wx_json.specs.Test.{is_json_text};
 ghost use Rattle.wx_json.specs.declared.JsonFault.{JsonFault};
 ghost use Rattle.wx_json.specs.Text.{IsJsonText, IsFault, IsEndFault};
 
@@ -50,4 +51,9 @@ pub fn check(bytes: &[u8]) -> Result<(), JsonFault>
 pub fn one_fault()
     ensures one { (b : List ℕ) (f g : JsonFault) → IsFault b f → IsFault b g → f ≡ g }
     ensures kept { (b t : List ℕ) (f : JsonFault) → IsFault b f → IsFault (b ++ t) f }
+{}
+
+/// The test that computes is true exactly of the JSON texts.
+pub fn json_test()
+    ensures { (text : List ℕ) → IsTrue (is_json_text text) ↔ IsJsonText text }
 {}
