@@ -56,7 +56,7 @@ fn make(broker: &mut Broker, alloc: Global, c: u64, step: &Step) -> Option<Answe
         }
         Step::Post(digit) => {
             let digits = Vec::from_slice(alloc, &[*digit]).ok()?;
-            let text = JsonText::number(digits).ok()?;
+            let text = JsonText::new(digits).ok()?;
             broker.post(c, CHANNEL, text).ok()
         }
         Step::Disconnect => broker.disconnect(c, CHANNEL).ok(),
@@ -237,7 +237,7 @@ fn worked_examples(rt: HostRuntime) -> Result<(), Fail> {
 
 /// Context 0 posts a number with so many digits on the first channel.
 fn post_digits(broker: &mut Broker, alloc: Global, count: usize) -> Option<Answer> {
-    let text = JsonText::number(vec![in alloc; b'1'; count].ok()?).ok()?;
+    let text = JsonText::new(vec![in alloc; b'1'; count].ok()?).ok()?;
     if broker.contexts() == 0 {
         return None;
     }

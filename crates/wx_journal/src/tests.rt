@@ -30,7 +30,7 @@ fn three_entries(alloc: Global) -> Option<Journal> {
         Call::Connect(Target::Own, name),
         Answer::NoReceiver,
     )?;
-    let text = JsonText::number(Vec::from_slice(alloc, b"10").ok()?).ok()?;
+    let text = JsonText::new(Vec::from_slice(alloc, b"10").ok()?).ok()?;
     push(
         &mut journal,
         0,

@@ -1,6 +1,6 @@
 use crate::contexts::{Context, Listens, Target};
-use crate::texts::JsonText;
 use wx_id::{ChannelNo, ContextNo, Event, Utf8Text};
+use wx_json::JsonText;
 
 /// Who makes a call.
 #[derive(Clone, Copy, Debug, PartialEq, Eq)]

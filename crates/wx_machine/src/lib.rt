@@ -11,5 +11,6 @@ mod world;
 
 pub use contexts::{Context, Listens, Target};
 pub use entries::{Answer, Call, Entry, Who};
-pub use texts::{JsonText, PagePath, PathFault};
+pub use texts::{PagePath, PathFault};
+pub use wx_json::JsonText;
 pub use world::World;

@@ -1,6 +1,5 @@
-use crate::{Context, JsonText, PagePath, PathFault, World};
+use crate::{Context, PagePath, PathFault, World};
 use std::alloc::Global;
-use std::test::Fail;
 use wx_id::ExtensionId;
 
 #[test]
@@ -18,27 +17,6 @@ fn page_paths(rt: HostRuntime) {
             Err(fault) => assert!(rt; !good && fault == PathFault::BadPath),
         }
     }
-}
-
-#[test]
-fn numbers(rt: HostRuntime) -> Result<(), Fail> {
-    for (digits, good) in [
-        ("0", true),
-        ("10", true),
-        ("01", false),
-        ("", false),
-        ("-1", false),
-        ("1 ", false),
-    ] {
-        match JsonText::number(Vec::from_slice(rt.alloc(), digits.as_bytes())?) {
-            Ok(text) => match text.try_clone() {
-                Ok(copy) => assert!(rt; good && copy.bytes() == digits.as_bytes()),
-                Err(_) => assert!(rt; false),
-            },
-            Err(back) => assert!(rt; !good && back.as_slice() == digits.as_bytes()),
-        }
-    }
-    Ok(())
 }
 
 fn page(alloc: Global) -> Option<Context> {

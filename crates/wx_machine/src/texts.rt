@@ -1,4 +1,4 @@
-ghost use Rattle.std.specs.Prelude.{◌≡◌, ◌↔◌, length, IsTrue, IsOk, IfOk, IfErr, false};
+ghost use Rattle.std.specs.Prelude.{◌≡◌, IsTrue, IfOk, false};
 ghost use Rattle.wx_machine.specs.Texts as texts;
 
 use std::alloc::Global;
@@ -76,80 +76,6 @@ impl PagePath {
         match self.text.try_clone() {
             Ok(text) => Ok(PagePath { text }),
             Err(NoMemory) => Err(NoMemory),
-        }
-    }
-}
-
-/// A message: a decimal number without a sign or leading zeros. Contracts see its bytes.
-#[derive(Debug, Drop)]
-pub struct JsonText {
-    bytes: Vec<u8>,
-}
-
-impl Model for JsonText {
-    ghost use Rattle.std.specs.Prelude.{List, ℕ, IsTrue};
-    ghost use Rattle.wx_machine.specs.Texts.{is_number};
-
-    ghost Value = { List ℕ };
-
-    ghost view = { λ text. text.bytes.items };
-
-    ghost invariant = { λ text. IsTrue (is_number text.bytes.items) };
-}
-
-fn are_digits(bytes: &[u8]) -> bool
-    ensures { result ≡ texts.are_digits bytes.now }
-{
-    bytes.iter().all(|byte| byte.is_ascii_digit())
-}
-
-fn is_number(bytes: &[u8]) -> bool
-    ensures { result ≡ texts.is_number bytes.now }
-{
-    match bytes.split_first() {
-        Some((first, others)) => {
-            first.is_ascii_digit() && are_digits(others) && (*first != b'0' || others.is_empty())
-        }
-        None => false,
-    }
-}
-
-impl JsonText {
-    /// The number that these digits are; they come back where they are none.
-    pub fn number(digits: Vec<u8>) -> Result<JsonText, Vec<u8>>
-        ensures exact { IsOk result ↔ IsTrue (texts.is_number digits.items) }
-        ensures ok { IfOk result (λ text. text ≡ digits.items) }
-        ensures returned { IfErr result (λ back. back ≡ digits) }
-    {
-        if is_number(&digits) {
-            Ok(JsonText { bytes: digits })
-        } else {
-            Err(digits)
-        }
-    }
-
-    /// Its bytes.
-    pub fn bytes(&self) -> &[u8]
-        ensures value { result.now ≡ self.now }
-        ensures sort { IsTrue (texts.is_number self.now) }
-    {
-        self.bytes.as_slice()
-    }
-
-    /// How many bytes it has.
-    pub fn len(&self) -> u64
-        ensures { result ≡ length self.now }
-    {
-        self.bytes.len() as u64
-    }
-
-    /// An equal text.
-    pub fn try_clone(&self) -> Result<JsonText, NoMemory>
-        ensures { IfOk result (λ copy. copy ≡ self.now) }
-    {
-        match self.bytes.clone() {
-            Ok(bytes) => Ok(JsonText { bytes }),
-            Err(_) => Err(NoMemory),
         }
     }
 }
