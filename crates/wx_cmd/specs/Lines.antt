@@ -1,7 +1,7 @@
 -- The lines that answers have on standard error.
 use Rattle.std.specs.Prelude.{ℕ, List, ◌++◌, decimal, codes}
 use Rattle.wx_script.specs.declared.scene.SceneKind.{SceneKind}
-use Rattle.wx_script.specs.declared.scene.SceneKind.TheVariants.{Missing, Large, Head, Form, Order, Id, Repeated, Unknown, Unbound, Many}
+use Rattle.wx_script.specs.declared.scene.SceneKind.TheVariants.{Missing, Large, Head, Form, Order, Id, Repeated, Unknown, Unbound, Json, Many}
 use Rattle.wx_script.specs.declared.scene.SceneFault.{SceneFault}
 
 -- the word for a fault's kind
@@ -15,6 +15,7 @@ kind_word Id = codes "id"
 kind_word Repeated = codes "repeated"
 kind_word Unknown = codes "unknown"
 kind_word Unbound = codes "unbound"
+kind_word Json = codes "json"
 kind_word Many = codes "many"
 
 abbrev pub usage_line : List ℕ

@@ -18,6 +18,7 @@ fn kind_word(kind: SceneKind) -> &'static str
         SceneKind::Repeated => "repeated",
         SceneKind::Unknown => "unknown",
         SceneKind::Unbound => "unbound",
+        SceneKind::Json => "json",
         SceneKind::Many => "many",
     }
 }

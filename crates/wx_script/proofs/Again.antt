@@ -3,8 +3,8 @@ use Rattle.std.proofs.Common.{◌≡◌, ℕ, Bool, true, false, List, [], ◌�
 use Rattle.std.specs.declared.option.Option.{Option}
 use Rattle.std.specs.Prelude.{IsTrue, codes}
 use Rattle.wx_machine.specs.declared.contexts.Listens.{Listens}
-use Rattle.wx_machine.specs.Texts.{is_page_path, is_number}
-use Rattle.wx_script.specs.Words.{word, rest, is_name, is_id_word}
+use Rattle.wx_machine.specs.Texts.{is_page_path}
+use Rattle.wx_script.specs.Words.{word, rest, is_name, is_id_word, is_given}
 use Rattle.wx_script.specs.Line.{Command, Line, listen, connect, post, disconnect, take_one, extension, page, script, listens_to, where_so, ◌>>=◌, name_at, extension_at, page_at, listen_at, connect_at, post_at, disconnect_at, command_with, command_at, declaration_with, declaration_at, line_at}
 use Rattle.wx_script.specs.Spelling.{◌␣◌, flags, spelling, command_spelling, IsLine, IsCommand}
 use Rattle.wx_script.proofs.WordLemmas.{word-append, rest-append, name_no_space}

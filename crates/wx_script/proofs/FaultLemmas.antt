@@ -11,9 +11,10 @@ use Rattle.wx_script.specs.declared.scene.SceneFault.{SceneFault}
 use Rattle.wx_script.specs.declared.scene.SceneReadFault.{SceneReadFault}
 use Rattle.wx_script.specs.declared.scene.SceneReadFault.TheVariants as fault
 use Rattle.wx_script.specs.SceneValue.{SceneValue}
-use Rattle.wx_script.specs.Line.{Command, Line, extension, page, script, line_at}
-use Rattle.wx_script.specs.Names.{has_extension, has_endpoint, id_under}
-use Rattle.wx_script.specs.Draft.{Draft, fresh, extension_added, page_with, page_added, act_of, act_added, channels_after, command_added, commands, line_added}
+use Rattle.wx_script.specs.Line.{Command, Line, listen, connect, post, disconnect, take_one, extension, page, script, line_at}
+use Rattle.wx_script.specs.Names.{has_extension, has_endpoint, id_under, place_in}
+use Rattle.wx_json.specs.Test.{is_json_text}
+use Rattle.wx_script.specs.Draft.{Draft, fresh, extension_added, page_with, page_added, act_of, act_added, where_bound, channels_after, command_added, commands, line_added}
 use Rattle.wx_script.specs.Scene.{lines_of, line_or_form, text_added, unless_faulty, ended, lines_added, scene_from, behind_head, headed, scene_of}
 use Rattle.wx_script.specs.Reading.{ReadsIt, is_of_a_line, IsOfALine, NamesALine}
 
@@ -28,14 +29,25 @@ of_page_with : (d : Draft) (name : List ℕ) (id : Option (List ℕ)) (path : Li
 of_page_with d name None path = refl
 of_page_with d name (Some id) path = of_choice (nat_le 1024 (length d.endpoints)) _ _ refl tt
 
-of_act_added : (d : Draft) (a : Option Act) (channels : List (List ℕ)) → OfALine (act_added d a channels)
-of_act_added d None channels = refl
-of_act_added d (Some a) channels = of_choice (nat_le 65534 (commands d.endpoints)) _ _ refl tt
+of_where_bound : (n : Option ℕ) (f : ℕ → Result Act SceneKind) → ((n : ℕ) → OfALine (f n)) → OfALine (where_bound n f)
+of_where_bound None f h = refl
+of_where_bound (Some n) f h = h n
+
+of_act_of : (channels : List (List ℕ)) (c : Command) → OfALine (act_of channels c)
+of_act_of channels (listen l) = tt
+of_act_of channels (connect name) = tt
+of_act_of channels (post name text) = of_where_bound (place_in name channels) _ (λ n. of_choice (is_json_text text) _ _ tt refl)
+of_act_of channels (disconnect name) = of_where_bound (place_in name channels) _ (λ n. tt)
+of_act_of channels take_one = tt
+
+of_act_added : (d : Draft) (a : Result Act SceneKind) (channels : List (List ℕ)) → OfALine a → OfALine (act_added d a channels)
+of_act_added d (Err k) channels h = h
+of_act_added d (Ok a) channels h = of_choice (nat_le 65534 (commands d.endpoints)) _ _ refl tt
 
 of_line_added : (d : Draft) (l : Line) → OfALine (line_added d l)
 of_line_added d (extension name id) = of_choice (not (is_extension_id id)) _ _ refl (of_choice (has_extension name id d.extensions) _ _ refl tt)
 of_line_added d (page name ext path) = of_choice (has_endpoint name d.endpoints) _ _ refl (of_page_with d name (id_under ext d.extensions) path)
-of_line_added d (script c) = of_choice (length d.endpoints == 0) _ _ refl (of_act_added d (act_of d.channels c) (channels_after d.channels c))
+of_line_added d (script c) = of_choice (length d.endpoints == 0) _ _ refl (of_act_added d (act_of d.channels c) (channels_after d.channels c) (of_act_of d.channels c))
 
 of_line_or_form : (d : Draft) (l : Option Line) → OfALine (line_or_form d l)
 of_line_or_form d None = refl

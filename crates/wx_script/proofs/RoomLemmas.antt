@@ -47,9 +47,9 @@ HasRoom-command d a c h there few =
     let less : commands d.endpoints < 65534 = grind (arith, nat_tests) in
     record { variables = omega (arith, is, more, h.variables); limit = omega (arith, is, less) }
 
-of_act_added : (d : Draft) (a : Option Act) (c : Command) → HasRoom d → (length d.endpoints == 0) ≡ false → Roomy (act_added d a (channels_after d.channels c))
-of_act_added d None c h there = tt
-of_act_added d (Some a) c h there = choice (nat_le 65534 (commands d.endpoints)) _ _ (λ t. tt) (λ few. HasRoom-command d a c h there few)
+of_act_added : (d : Draft) (a : Result Act SceneKind) (c : Command) → HasRoom d → (length d.endpoints == 0) ≡ false → Roomy (act_added d a (channels_after d.channels c))
+of_act_added d (Err k) c h there = tt
+of_act_added d (Ok a) c h there = choice (nat_le 65534 (commands d.endpoints)) _ _ (λ t. tt) (λ few. HasRoom-command d a c h there few)
 
 of_line_added : (d : Draft) (l : Line) → HasRoom d → Roomy (line_added d l)
 of_line_added d (extension name id) h = of_extension_added d name id h

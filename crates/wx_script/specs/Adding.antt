@@ -1,8 +1,9 @@
 -- What the code answers that takes a line.
-use Rattle.std.specs.Prelude.{◌≡◌, List, Option, Some, None, Result, Ok, Err}
+use Rattle.std.specs.Prelude.{◌≡◌, ℕ, List, false, Result, Ok, Err}
+use Rattle.wx_json.specs.Test.{is_json_text}
+use Rattle.wx_script.specs.declared.scene.SceneKind.TheVariants as kind
 use Rattle.wx_script.specs.declared.script.Act.{Act}
 use Rattle.wx_script.specs.declared.scene.SceneKind.{SceneKind}
-use Rattle.wx_script.specs.declared.scene.SceneKind.TheVariants as kind
 use Rattle.wx_script.specs.declared.draft.Draft as code
 use Rattle.wx_script.specs.declared.draft.LineFault.{LineFault}
 use Rattle.wx_script.specs.declared.draft.LineFault.TheVariants as fault
@@ -20,8 +21,12 @@ abbrev pub Makes : {A : Type 0} → Draft → Result A LineFault → Result Draf
 Makes new (Ok x) made = made ≡ Ok new
 Makes new (Err e) made = IsFault e made
 
+-- bytes are refused as no JSON text, or memory ran out
+abbrev pub IsJsonFault : List ℕ → LineFault → Type 0
+IsJsonFault json fault.NoMemory = Unit {0}
+IsJsonFault json (fault.Bad k) = (k ≡ kind.Json) × (is_json_text json ≡ false)
+
 -- a command's act, unless memory ran out
-abbrev pub MakesAct : Result Act LineFault → Option Act → Type 0
-MakesAct (Ok a) made = made ≡ Some a
-MakesAct (Err fault.NoMemory) made = Unit {0}
-MakesAct (Err (fault.Bad k)) made = (k ≡ kind.Unbound) × (made ≡ None)
+abbrev pub MakesAct : Result Act LineFault → Result Act SceneKind → Type 0
+MakesAct (Ok a) made = made ≡ Ok a
+MakesAct (Err e) made = IsFault e made

@@ -1,6 +1,5 @@
 -- The scene so far, and what one more line makes of it.
 use Rattle.std.specs.Prelude.{◌≡◌, ℕ, ◌+◌, ◌≤◌, Bool, not, List, [], ◌∷◌, ◌++◌, length, Option, Some, None, Result, Ok, Err, ◌==◌, nat_le, is_some, if◌then◌else◌}
-use Rattle.std.specs.Option.{option_map}
 use Rattle.wx_id.specs.Ids.{is_extension_id}
 use Rattle.wx_machine.specs.declared.contexts.Context.TheVariants.{Page}
 use Rattle.wx_machine.specs.declared.contexts.Target.TheVariants.{Own}
@@ -11,6 +10,7 @@ use Rattle.wx_script.specs.declared.scene.SceneExtension.{SceneExtension}
 use Rattle.wx_script.specs.declared.scene.SceneEndpoint.{SceneEndpoint}
 use Rattle.wx_script.specs.declared.scene.SceneKind.{SceneKind}
 use Rattle.wx_script.specs.declared.scene.SceneKind.TheVariants as kind
+use Rattle.wx_json.specs.Test.{is_json_text}
 use Rattle.wx_script.specs.Names.{has_extension, has_endpoint, id_under, place_in}
 use Rattle.wx_script.specs.Line.{Command, Line, listen, connect, post, disconnect, take_one, extension, page, script}
 
@@ -50,17 +50,26 @@ var n = record { 0 = n }
 abbrev pub binding : List ℕ → List (List ℕ) → List (List ℕ)
 binding name channels = if is_some (place_in name channels) then channels else channels ++ name ∷ []
 
+-- what a command makes of its variable's number, unless no earlier command of the script binds it
+abbrev pub where_bound : Option ℕ → (ℕ → Result Act SceneKind) → Result Act SceneKind
+where_bound None f = Err kind.Unbound
+where_bound (Some n) f = f n
+
+-- a command that carries a message, which is a JSON text
+abbrev pub where_json : List ℕ → Act → Result Act SceneKind
+where_json text a = if is_json_text text then Ok a else Err kind.Json
+
 abbrev pub place_or_next : Option ℕ → List (List ℕ) → ℕ
 place_or_next None channels = length channels
 place_or_next (Some n) channels = n
 
--- a command with its variables' numbers, unless it uses one that no earlier command of the script binds
-abbrev pub act_of : List (List ℕ) → Command → Option Act
-act_of channels (listen l) = Some (act.Listen l)
-act_of channels (connect name) = Some (act.Connect (var (place_or_next (place_in name channels) channels)) Own [])
-act_of channels (post name number) = option_map (λ n. act.Post (var n) number) (place_in name channels)
-act_of channels (disconnect name) = option_map (λ n. act.Disconnect (var n)) (place_in name channels)
-act_of channels take_one = Some act.Take
+-- a command with its variables' numbers, or the first test that it fails
+abbrev pub act_of : List (List ℕ) → Command → Result Act SceneKind
+act_of channels (listen l) = Ok (act.Listen l)
+act_of channels (connect name) = Ok (act.Connect (var (place_or_next (place_in name channels) channels)) Own [])
+act_of channels (post name text) = where_bound (place_in name channels) (λ n. where_json text (act.Post (var n) text))
+act_of channels (disconnect name) = where_bound (place_in name channels) (λ n. Ok (act.Disconnect (var n)))
+act_of channels take_one = Ok act.Take
 
 -- the variables behind a command
 abbrev pub channels_after : List (List ℕ) → Command → List (List ℕ)
@@ -79,9 +88,9 @@ with_act a [] = []
 with_act a (e ∷ []) = record e { script = e.script ++ a ∷ [] } ∷ []
 with_act a (e ∷ f ∷ es) = e ∷ with_act a (f ∷ es)
 
-abbrev pub act_added : Draft → Option Act → List (List ℕ) → Result Draft SceneKind
-act_added d None channels = Err kind.Unbound
-act_added d (Some a) channels =
+abbrev pub act_added : Draft → Result Act SceneKind → List (List ℕ) → Result Draft SceneKind
+act_added d (Err k) channels = Err k
+act_added d (Ok a) channels =
     if nat_le 65534 (commands d.endpoints) then Err kind.Many
     else Ok (record d { endpoints = with_act a d.endpoints; channels = channels })
 

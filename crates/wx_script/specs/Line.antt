@@ -3,8 +3,8 @@ use Rattle.std.specs.Prelude.{ℕ, Bool, true, false, List, [], ◌∷◌, Optio
 use Rattle.std.specs.Str.{bytes_eq}
 use Rattle.std.specs.List.{starts_with}
 use Rattle.wx_machine.specs.declared.contexts.Listens.{Listens}
-use Rattle.wx_machine.specs.Texts.{is_page_path, is_number}
-use Rattle.wx_script.specs.Words.{word, rest, is_name, is_id_word}
+use Rattle.wx_machine.specs.Texts.{is_page_path}
+use Rattle.wx_script.specs.Words.{word, rest, is_name, is_id_word, is_given}
 
 -- a command as it stands in a script line, with the names of its variables
 pub data Command : Type 0 where
@@ -65,11 +65,11 @@ connect_at text = do
   var ← name_at text
   where_so (bytes_eq var.1 (codes "own")) (connect var.0)
 
--- VAR N
+-- VAR JSON: the rest of the line, at least one byte
 unfoldable pub post_at : List ℕ → Option Command
 post_at text = do
   var ← name_at text
-  where_so (is_number var.1) (post var.0 var.1)
+  where_so (is_given var.1) (post var.0 var.1)
 
 -- VAR
 unfoldable pub disconnect_at : List ℕ → Option Command

@@ -1,8 +1,8 @@
 -- The one spelling of each line.
 use Rattle.std.specs.Prelude.{◌≡◌, ℕ, Bool, List, [], ◌∷◌, ◌++◌, IsTrue, codes, if◌then◌else◌}
 use Rattle.wx_machine.specs.declared.contexts.Listens.{Listens}
-use Rattle.wx_machine.specs.Texts.{is_page_path, is_number}
-use Rattle.wx_script.specs.Words.{is_name, is_id_word}
+use Rattle.wx_machine.specs.Texts.{is_page_path}
+use Rattle.wx_script.specs.Words.{is_name, is_id_word, is_given}
 use Rattle.wx_script.specs.Line.{Command, Line, listen, connect, post, disconnect, take_one, extension, page, script, listens_to}
 
 infixr 6 ◌␣◌
@@ -17,7 +17,7 @@ flags to_connect = if to_connect then codes "connect" else codes "none"
 abbrev pub command_spelling : Command → List ℕ
 command_spelling (listen l) = codes "listen" ␣ flags l.connect
 command_spelling (connect var) = codes "connect" ␣ var ␣ codes "own"
-command_spelling (post var number) = codes "post" ␣ var ␣ number
+command_spelling (post var text) = codes "post" ␣ var ␣ text
 command_spelling (disconnect var) = codes "disconnect" ␣ var
 command_spelling take_one = codes "take"
 
@@ -30,7 +30,7 @@ spelling (script command) = codes "  " ++ command_spelling command
 abbrev pub IsCommand : Command → Type 0
 IsCommand (listen l) = l ≡ listens_to l.connect
 IsCommand (connect var) = IsTrue (is_name var)
-IsCommand (post var number) = IsTrue (is_name var) × IsTrue (is_number number)
+IsCommand (post var text) = IsTrue (is_name var) × IsTrue (is_given text)
 IsCommand (disconnect var) = IsTrue (is_name var)
 IsCommand take_one = Unit {0}
 

@@ -8,7 +8,7 @@ use Rattle.wx_script.specs.Line as spec
 abbrev pub command_view : code_command.Command → spec.Command
 command_view (c.Listen listens) = spec.listen listens
 command_view (c.Connect var) = spec.connect var.now
-command_view (c.Post var number) = spec.post var.now number.now
+command_view (c.Post var text) = spec.post var.now text.now
 command_view (c.Disconnect var) = spec.disconnect var.now
 command_view c.Take = spec.take_one
 

@@ -1,8 +1,8 @@
 -- The words of a line, and which bytes each sort of word has.
-use Rattle.std.specs.Prelude.{ℕ, Bool, false, ◌&&◌, ◌||◌, not, List, [], ◌∷◌, length, Option, Some, None, ◌==◌, nat_lt, nat_le, codes, if◌then◌else◌}
+use Rattle.std.specs.Prelude.{ℕ, Bool, true, false, ◌&&◌, ◌||◌, not, List, [], ◌∷◌, length, Option, Some, None, ◌==◌, nat_lt, nat_le, codes, if◌then◌else◌}
 use Rattle.std.specs.List.{list_all}
 use Rattle.std.specs.Str.{bytes_eq}
-use Rattle.wx_machine.specs.Texts.{is_digit, is_printable}
+use Rattle.wx_machine.specs.Texts.{is_printable}
 
 -- the bytes up to the first space
 abbrev pub word : List ℕ → List ℕ
@@ -13,6 +13,9 @@ word (b ∷ bs) = if b == 32 then [] else b ∷ word bs
 abbrev pub rest : List ℕ → Option (List ℕ)
 rest [] = None
 rest (b ∷ bs) = if b == 32 then Some bs else rest bs
+
+abbrev pub is_digit : ℕ → Bool
+is_digit b = nat_le 48 b && nat_le b 57
 
 -- `a` to `z`
 abbrev pub is_letter : ℕ → Bool
@@ -35,3 +38,8 @@ is_name text = is_identifier text && not (bytes_eq text (codes "same"))
 abbrev pub is_id_word : List ℕ → Bool
 is_id_word [] = false
 is_id_word (b ∷ bs) = is_printable (b ∷ bs)
+
+-- the rest of a line: at least one byte
+abbrev pub is_given : List ℕ → Bool
+is_given [] = false
+is_given (b ∷ bs) = true

@@ -1,6 +1,7 @@
 ghost use Rattle.std.specs.Prelude.{◌≡◌, MatchResult, Some, None, [], OnOk, IfSome, ◌<◌, ◌^◌, length, IsTrue};
-ghost use Rattle.wx_machine.specs.Texts.{is_page_path, is_number};
-ghost use Rattle.wx_script.specs.Adding.{so_far, Makes, MakesAct};
+ghost use Rattle.wx_machine.specs.Texts.{is_page_path};
+ghost use Rattle.wx_json.specs.Test.{is_json_text};
+ghost use Rattle.wx_script.specs.Adding.{so_far, Makes, MakesAct, IsJsonFault};
 ghost use Rattle.wx_machine.specs.declared.contexts.Context.TheVariants as context;
 ghost use Rattle.wx_script.specs.Draft.{place_or_next, extension_added, page_added, act_of, with_act, binding, channels_after, command_added, line_added, commands, HasRoom};
 ghost use Rattle.wx_script.specs.Names.{has_extension, has_endpoint, id_under, place_in};
@@ -188,15 +189,14 @@ fn bound(channels: &[Utf8Text], name: &str) -> Var
     }
 }
 
-/// The text of a number.
-fn number_text(alloc: Global, number: &[u8]) -> Result<JsonText, LineFault>
-    requires { IsTrue (is_number number.now) }
-    ensures { MatchResult result (λ text. text ≡ number.now) (λ e. e ≡ LineFault.NoMemory) }
+/// The JSON text that the rest of a line is.
+fn json_text(alloc: Global, json: &[u8]) -> Result<JsonText, LineFault>
+    ensures { MatchResult result (λ text. (text ≡ json.now) × IsTrue (is_json_text json.now)) (IsJsonFault json.now) }
 {
-    let digits = Vec::from_slice(alloc, number)?;
-    match JsonText::number(digits) {
+    let bytes = Vec::from_slice(alloc, json)?;
+    match JsonText::new(bytes) {
         Ok(text) => Ok(text),
-        Err(_) => unreachable!(),
+        Err(_) => Err(LineFault::Bad(SceneKind::Json)),
     }
 }
 
@@ -212,9 +212,9 @@ fn act(alloc: Global, channels: &[Utf8Text], command: Command<'_>) -> Result<Act
             let var = bound(channels, name);
             Ok(Act::Connect(var, Target::Own, Utf8Text::new(alloc, "")?))
         }
-        Command::Post(name, number) => {
+        Command::Post(name, json) => {
             let var = used(channels, name)?;
-            Ok(Act::Post(var, number_text(alloc, number)?))
+            Ok(Act::Post(var, json_text(alloc, json)?))
         }
         Command::Disconnect(name) => Ok(Act::Disconnect(used(channels, name)?)),
         Command::Take => Ok(Act::Take),

@@ -13,7 +13,7 @@ pub fn one_spelling()
 {}
 
 /// Scenes that are read.
-#[tactic(auto, unfolding(crate::specs::Line::name_at, crate::specs::Line::extension_at, crate::specs::Line::page_at, crate::specs::Line::listen_at, crate::specs::Line::connect_at, crate::specs::Line::post_at, crate::specs::Line::disconnect_at, crate::specs::Line::command_with, crate::specs::Line::command_at, crate::specs::Line::declaration_with, crate::specs::Line::declaration_at, crate::specs::Line::line_at))]
+#[tactic(auto, unfolding(crate::specs::Line::name_at, crate::specs::Line::extension_at, crate::specs::Line::page_at, crate::specs::Line::listen_at, crate::specs::Line::connect_at, crate::specs::Line::post_at, crate::specs::Line::disconnect_at, crate::specs::Line::command_with, crate::specs::Line::command_at, crate::specs::Line::declaration_with, crate::specs::Line::declaration_at, crate::specs::Line::line_at, wx_json::specs::Test::is_json_text, wx_json::specs::Machine::next, wx_json::specs::Coding::code))]
 pub fn scenes()
     ensures head_line_alone { IsScene [] [] [] }
     ensures two_pages { TwoPages }
@@ -21,7 +21,7 @@ pub fn scenes()
 {}
 
 /// The first faulty line of scenes, and what is wrong with it.
-#[tactic(auto, unfolding(crate::specs::Line::name_at, crate::specs::Line::extension_at, crate::specs::Line::page_at, crate::specs::Line::listen_at, crate::specs::Line::connect_at, crate::specs::Line::post_at, crate::specs::Line::disconnect_at, crate::specs::Line::command_with, crate::specs::Line::command_at, crate::specs::Line::declaration_with, crate::specs::Line::declaration_at, crate::specs::Line::line_at))]
+#[tactic(auto, unfolding(crate::specs::Line::name_at, crate::specs::Line::extension_at, crate::specs::Line::page_at, crate::specs::Line::listen_at, crate::specs::Line::connect_at, crate::specs::Line::post_at, crate::specs::Line::disconnect_at, crate::specs::Line::command_with, crate::specs::Line::command_at, crate::specs::Line::declaration_with, crate::specs::Line::declaration_at, crate::specs::Line::line_at, wx_json::specs::Test::is_json_text, wx_json::specs::Machine::next, wx_json::specs::Coding::code))]
 pub fn faults()
     ensures no_bytes { scene_of [] ≡ Err (fault_at 1 kind.Head) }
     ensures head_line_without_line_feed { scene_of (codes "wx scene 1 chrome") ≡ Err (fault_at 1 kind.Form) }
@@ -32,5 +32,7 @@ pub fn faults()
     ensures undeclared_extension { HasFault (codes "page p x /p" ∷ []) 2 kind.Unknown }
     ensures two_spaces { HasFault (extension_x ∷ codes "page  p x /p" ∷ []) 3 kind.Form }
     ensures post_without_connect { HasFault (extension_x ∷ codes "page p x /p" ∷ codes "  post ch 1" ∷ []) 4 kind.Unbound }
+    ensures no_json_text { HasFault (extension_x ∷ codes "page p x /p" ∷ codes "  connect ch own" ∷ codes "  post ch {" ∷ []) 5 kind.Json }
+    ensures unbound_before_json { HasFault (extension_x ∷ codes "page p x /p" ∷ codes "  post ch {" ∷ []) 4 kind.Unbound }
     ensures repeated_before_unknown { HasFault (extension_x ∷ codes "page p x /p" ∷ codes "page p nobody /p" ∷ []) 4 kind.Repeated }
 {}

@@ -4,7 +4,7 @@ ghost use Rattle.wx_script.specs.Line as forms;
 ghost use Rattle.wx_script.specs.Spelling.{spelling, IsLine};
 ghost use Rattle.wx_script.specs.View.{command_view, line_view};
 
-use crate::word::{is_id_word, is_number, name, name_and_rest, path, split_word};
+use crate::word::{is_given, is_id_word, name, name_and_rest, path, split_word};
 use wx_machine::Listens;
 
 /// A command with the names of its variables.
@@ -87,9 +87,9 @@ fn connect_of(text: &[u8]) -> Option<Command<'_>>
 fn post_of(text: &[u8]) -> Option<Command<'_>>
     ensures { option_map command_view result ≡ forms.post_at text.now }
 {
-    let (var, number) = name_and_rest(text)?;
-    if is_number(number) {
-        Some(Command::Post(var, number))
+    let (var, json) = name_and_rest(text)?;
+    if is_given(json) {
+        Some(Command::Post(var, json))
     } else {
         None
     }

@@ -113,7 +113,7 @@ fn unended(text: &[u8]) -> SceneReadFault
 
 impl Scene {
     /// Reads the scene that bytes spell, or names the first faulty line. On one line the tests are made in the
-    /// order `Head`, `Form`, `Order`, `Id`, `Repeated`, `Unknown`, `Unbound`, `Many`.
+    /// order `Head`, `Form`, `Order`, `Id`, `Repeated`, `Unknown`, `Unbound`, `Json`, `Many`.
     #[tactic(auto, using(crate::proofs::ReadingLemmas::lines, crate::proofs::FaultLemmas::names_a_line))]
     pub fn read(alloc: Global, bytes: &[u8]) -> Result<Scene, SceneReadFault>
         ensures exact { ReadsIt result (scene_of bytes.now) }

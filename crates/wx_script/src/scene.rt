@@ -41,6 +41,8 @@ pub enum SceneKind {
     Unknown,
     /// No earlier command of the script binds the variable.
     Unbound,
+    /// The message is no JSON text.
+    Json,
     /// An endpoint or a command is one too many.
     Many,
 }

@@ -107,19 +107,8 @@ pub(crate) fn path(word: &[u8]) -> Option<&str>
     }
 }
 
-fn are_digits(text: &[u8]) -> bool
-    ensures { result ≡ texts.are_digits text.now }
+pub(crate) fn is_given(text: &[u8]) -> bool
+    ensures { result ≡ words.is_given text.now }
 {
-    text.iter().all(|byte| byte.is_ascii_digit())
-}
-
-pub(crate) fn is_number(text: &[u8]) -> bool
-    ensures { result ≡ texts.is_number text.now }
-{
-    match text.split_first() {
-        Some((first, others)) => {
-            first.is_ascii_digit() && are_digits(others) && (*first != b'0' || others.is_empty())
-        }
-        None => false,
-    }
+    !text.is_empty()
 }
