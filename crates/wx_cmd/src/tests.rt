@@ -125,6 +125,28 @@ c0 leave -> done
 c1 leave -> done
 ",
     ),
+    // A message is carried as it stands.
+    (
+        "wx scene 1 chrome
+extension x aaaaaaaaaaaaaaaaaaaaaaaaaaaaaaaa
+page q x /q
+  connect ch own
+  post ch [1, \"x\"]
+page p x /p
+  listen connect
+  take
+",
+        "wx journal 1 chrome
+c0 enter page aaaaaaaaaaaaaaaaaaaaaaaaaaaaaaaa 2:/q -> context 0
+c1 enter page aaaaaaaaaaaaaaaaaaaaaaaaaaaaaaaa 2:/p -> context 1
+c1 listen c--- -> done
+c0 connect own 0: -> channel 0
+c1 take -> connected 0 3
+c0 post 0 8:[1, \"x\"] -> posted
+c1 leave -> done
+c0 leave -> done
+",
+    ),
     // A page does not connect to itself, and the post without a channel is passed over.
     (
         "wx scene 1 chrome
