@@ -1,0 +1,14 @@
+//! Match patterns of web extensions: reading them, and matching a URL against one.
+//!
+//! The grammar and the meaning are those of MDN's "Match patterns in extension manifests" and Chrome's "Match
+//! patterns", with the schemes `*`, `http`, `https` and `file` alone and without ports.
+#![tactic(auto)]
+
+mod fault;
+mod glob;
+mod parts;
+mod pattern;
+mod reading;
+
+pub use fault::{PatternFault, PatternKind, PatternReadFault};
+pub use pattern::Pattern;
