@@ -1,1 +1,4 @@
 mod GlobLemmas
+mod HostLemmas
+mod NameLemmas
+mod SchemeLemmas

@@ -1,6 +1,8 @@
-ghost use Rattle.std.specs.Prelude.{◌≡◌, ◌↔◌, ◌∷◌, ◌<◌, ◌≤◌, ◌^◌, IsTrue, length, drop};
+ghost use Rattle.std.specs.Prelude.{◌≡◌, ◌↔◌, ◌∷◌, ◌<◌, ◌≤◌, ◌^◌, IsTrue, length};
 ghost use Rattle.wx_match_pattern.specs.Globs.{Globs, star};
 ghost use Rattle.wx_match_pattern.specs.Run.{run_of, IsWithin};
+
+use crate::slices::behind;
 
 /// How the plain characters at the front of a pattern go along a text.
 #[derive(Clone, Copy, Debug, PartialEq, Eq)]
@@ -31,14 +33,6 @@ fn run_at_front(pattern: &[u8], text: &[u8]) -> Run
     } else {
         Run::Differs
     }
-}
-
-/// The bytes behind the first ones.
-fn behind(bytes: &[u8], count: usize) -> &[u8]
-    requires { count ≤ length bytes.now }
-    ensures { result.now ≡ drop count bytes.now }
-{
-    &bytes[count..]
 }
 
 /// Whether `*` and then the pattern match the text.

@@ -9,6 +9,7 @@ mod glob;
 mod parts;
 mod pattern;
 mod reading;
+mod slices;
 
 pub use fault::{PatternFault, PatternKind, PatternReadFault};
 pub use pattern::Pattern;

@@ -3,6 +3,8 @@ ghost use Rattle.wx_match_pattern.specs.Meets.{SchemeAgrees, HostAgrees, IsBelow
 ghost use Rattle.wx_match_pattern.specs.Pattern.{scheme_head, IsBroadHost};
 ghost use Rattle.wx_match_pattern.specs.View.{host_view, IsStored};
 
+use crate::slices::behind;
+
 /// The scheme of a pattern.
 #[derive(Clone, Copy, Debug, PartialEq, Eq)]
 pub(crate) enum SchemePart {
@@ -74,7 +76,7 @@ fn is_below(name: &[u8], host: &[u8]) -> bool
         return false;
     }
     let dot = host.len() - name.len() - 1;
-    host[dot] == b'.' && host[dot + 1..].eq_ignore_ascii_case(name)
+    host[dot] == b'.' && behind(host, dot + 1).eq_ignore_ascii_case(name)
 }
 
 impl HostForm {
