@@ -1,3 +1,4 @@
+mod FrontLemmas
 mod GlobLemmas
 mod HostLemmas
 mod NameLemmas

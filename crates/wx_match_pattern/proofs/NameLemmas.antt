@@ -48,7 +48,7 @@ Rest true bytes = (b : ℕ) → is_label_byte b ≡ true → IsName (b ∷ bytes
 Rest false bytes = IsName bytes
 
 -- what makes a name of the bytes that begin one
-pub completion : Bool → List ℕ
+unfoldable pub completion : Bool → List ℕ
 completion true = []
 completion false = 97 ∷ []
 
@@ -140,14 +140,29 @@ name-whole r (dotted {l = l} {n = n} is name) =
     ap (name_whole false) (append_assoc l (dot ∷ n) r) ∙ label-whole false l (dot ∷ n ++ r) is
     ∙ name_whole-dot (n ++ r) ∙ name-whole r name
 
-pub name_len-name : (n r : List ℕ) → IsName n → name_len false (n ++ slash ∷ r) ≡ length n
-name_len-name n r is =
-    let all = name-len (slash ∷ r) is in
-    let none = name_len-other true slash r refl refl in
+-- the text ends behind a host, or a path follows
+pub data Follows : List ℕ → Type 0 where
+  nothing : Follows []
+  path : {r : List ℕ} → Follows (slash ∷ r)
+
+follows-len : {r : List ℕ} → Follows r → name_len true r ≡ 0
+unfolding name_len
+follows-len nothing = refl
+follows-len (path {r = r}) = name_len-other true slash r refl refl
+
+follows-whole : {r : List ℕ} → Follows r → name_whole true r ≡ true
+unfolding name_whole
+follows-whole nothing = refl
+follows-whole (path {r = r}) = name_whole-other true slash r refl refl
+
+pub name_len-name : (n r : List ℕ) → IsName n → Follows r → name_len false (n ++ r) ≡ length n
+name_len-name n r is follows =
+    let all = name-len r is in
+    let none = follows-len follows in
     omega arith
 
-pub name_whole-name : (n r : List ℕ) → IsName n → name_whole false (n ++ slash ∷ r) ≡ true
-name_whole-name n r is = name-whole (slash ∷ r) is ∙ name_whole-other true slash r refl refl
+pub name_whole-name : (n r : List ℕ) → IsName n → Follows r → name_whole false (n ++ r) ≡ true
+name_whole-name n r is follows = name-whole r is ∙ follows-whole follows
 
 pub first_of_name : {n : List ℕ} → IsName n → (b : ℕ) × (rest : List ℕ) × (n ≡ b ∷ rest) × (is_label_byte b ≡ true)
 first_of_name (label {l = l} is) = of_label l is

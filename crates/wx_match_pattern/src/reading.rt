@@ -68,6 +68,7 @@ fn scheme_place(text: &[u8]) -> usize
 fn name_front(bytes: &[u8]) -> HostFront
     ensures len { result.len ≡ reading.name_len false bytes.now }
     ensures whole { result.whole ≡ reading.name_whole false bytes.now }
+    ensures within { result.len ≤ length bytes.now }
 {
     let mut inside = false;
     for (i, byte) in bytes.iter().enumerate() {
@@ -158,6 +159,7 @@ fn read_behind(alloc: Global, scheme: SchemePart, bytes: &[u8]) -> Result<Form, 
 }
 
 /// The pattern that the text is.
+#[tactic(auto, unfolding(crate::specs::Reading::pattern_of))]
 pub(crate) fn read_form(alloc: Global, text: &[u8]) -> Result<Form, PatternReadFault>
     ensures { Gives (answer_view result) (reading.pattern_of text.now) }
 {
