@@ -9,7 +9,7 @@ use Rattle.wx_match_pattern.specs.Pattern.{is_label_byte, IsName, HostPart, no_h
 use Rattle.wx_match_pattern.specs.Reading.{name_len, name_whole, web_host_front, host_front, host_part}
 use Rattle.wx_match_pattern.proofs.NameLemmas.{completion, IsName-begun, name_len-within, name_len-settled, name_whole-settled, Follows, nothing, path, name_len-name, name_whole-name, first_of_name}
 
-pub front_of : ℕ → Bool → HostFront
+unfoldable pub front_of : ℕ → Bool → HostFront
 front_of n w = record { len = n; whole = w }
 
 -- ---- the front, by the first bytes

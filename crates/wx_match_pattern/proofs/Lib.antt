@@ -2,4 +2,6 @@ mod FrontLemmas
 mod GlobLemmas
 mod HostLemmas
 mod NameLemmas
+mod PlaceLemmas
+mod ReadingLemmas
 mod SchemeLemmas

@@ -72,7 +72,7 @@ agreement-at_length text head i agrees l =
 
 -- ---- a head at the front
 
-agreement-head : (head rest : List ℕ) → agreement (head ++ rest) head ≡ length head
+pub agreement-head : (head rest : List ℕ) → agreement (head ++ rest) head ≡ length head
 agreement-head [] rest = agreement-end rest
 agreement-head (h ∷ head) rest = agreement-same h h (head ++ rest) head refl ∙ ap suc (agreement-head head rest)
 
@@ -131,7 +131,7 @@ agreement-settled (b ∷ text) (h ∷ head) more (suc k) l m =
 -- ---- the scheme
 
 -- the scheme whose head stands at the front, or none whose head does
-pub SchemeSays : Option SchemePart → List ℕ → Type 0
+unfoldable pub SchemeSays : Option SchemePart → List ℕ → Type 0
 SchemeSays (Some scheme) text = text ≡ scheme_head scheme ++ drop (length (scheme_head scheme)) text
 SchemeSays None text = (scheme : SchemePart) → agreement text (scheme_head scheme) ≢ length (scheme_head scheme)
 
