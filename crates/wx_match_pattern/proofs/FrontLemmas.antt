@@ -86,9 +86,11 @@ web_front-completes _ at_end =
     (named (take (name_len false []) [] ++ completion (name_whole false [])), IsName-begun [], refl)
 web_front-completes _ (at_below x) =
     let two : 2 + name_len false x ≡ suc (suc (name_len false x)) = omega arith in
-    by_front (Completes IsWebHost (star ∷ dot ∷ x)) (front-below x)
-    (below (take (name_len false x) x ++ completion (name_whole false x)), IsName-begun x,
-      ap (λ (n : ℕ). take n (star ∷ dot ∷ x) ++ completion (name_whole false x)) (sym two))
+    by_front (Completes IsWebHost (star ∷ dot ∷ x)) (front-below x) (
+      below (take (name_len false x) x ++ completion (name_whole false x)),
+      IsName-begun x,
+      ap (λ (n : ℕ). take n (star ∷ dot ∷ x) ++ completion (name_whole false x)) (sym two),
+    )
 web_front-completes _ at_lone_star = by_front (Completes IsWebHost (star ∷ [])) front-lone_star (any_host, tt, refl)
 web_front-completes _ (at_star d x e) = by_front (Completes IsWebHost (star ∷ d ∷ x)) (front-star d x e) (any_host, tt, refl)
 web_front-completes _ (at_name c x e) =
@@ -113,15 +115,15 @@ web_front-settled _ more at_end = by_front (Settles [] more) front-end (λ l. ab
 web_front-settled _ more (at_below x) =
     let two : 2 + name_len false x ≡ suc (suc (name_len false x)) = omega arith in
     by_front (Settles (star ∷ dot ∷ x) more) (front-below x) (λ l.
-      ap (λ (n : ℕ). web_host_front (take (suc n) (star ∷ dot ∷ x) ++ more)) two
-      ∙ front-below (take (suc (name_len false x)) x ++ more)
-      ∙ ap₂ front_of (ap (λ (n : ℕ). 2 + n) (name_len-settled x more (omega arith))) (name_whole-settled x more (omega arith)))
+    ap (λ (n : ℕ). web_host_front (take (suc n) (star ∷ dot ∷ x) ++ more)) two
+    ∙ front-below (take (suc (name_len false x)) x ++ more)
+    ∙ ap₂ front_of (ap (λ (n : ℕ). 2 + n) (name_len-settled x more (omega arith))) (name_whole-settled x more (omega arith)))
 web_front-settled _ more at_lone_star = by_front (Settles (star ∷ []) more) front-lone_star (λ l. absurd (omega arith))
 web_front-settled _ more (at_star d x e) = by_front (Settles (star ∷ d ∷ x) more) (front-star d x e) (λ l. front-star d more e)
 web_front-settled _ more (at_name c x e) =
     by_front (Settles (c ∷ x) more) (front-name c x e) (λ l.
-      front-name c (take (name_len false (c ∷ x)) x ++ more) e
-      ∙ ap₂ front_of (name_len-settled (c ∷ x) more l) (name_whole-settled (c ∷ x) more l))
+    front-name c (take (name_len false (c ∷ x)) x ++ more) e
+    ∙ ap₂ front_of (name_len-settled (c ∷ x) more l) (name_whole-settled (c ∷ x) more l))
 
 pub front-settled : (scheme : SchemePart) (bytes more : List ℕ) → (host_front scheme bytes).len < length bytes → host_front scheme (take (suc (host_front scheme bytes).len) bytes ++ more) ≡ host_front scheme bytes
 unfolding Settles

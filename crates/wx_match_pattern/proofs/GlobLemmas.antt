@@ -98,8 +98,8 @@ run_says (c ∷ p) (d ∷ x) =
     cond_both (eqb c star) (Star 0) (cond (eqb c d) (one_more (run_of p x)) Differs) (λ r. Says r (c ∷ p) (d ∷ x))
     (λ e. star_here (eqb-true c star e))
     (λ n. cond_both (eqb c d) (one_more (run_of p x)) Differs (λ r. Says r (c ∷ p) (d ∷ x))
-      (λ e. subst (λ (v : ℕ). Says (one_more (run_of p x)) (c ∷ p) (v ∷ x)) (eqb-true c d e) (one_more_says (run_of p x) c p x (eqb-false c star n) rest))
-      (λ m. apart (eqb-false c star n) (eqb-false c d m)))
+    (λ e. subst (λ (v : ℕ). Says (one_more (run_of p x)) (c ∷ p) (v ∷ x)) (eqb-true c d e) (one_more_says (run_of p x) c p x (eqb-false c star n) rest))
+    (λ m. apart (eqb-false c star n) (eqb-false c d m)))
 
 forth : {k : ℕ} {p x : List ℕ} → StarAt k p x → (y : List ℕ) → Globs p y → Globs (star ∷ drop (suc k) p) (drop k y)
 forth here y g = g
@@ -125,9 +125,9 @@ keeps {k} {p} {x} s g =
     let b = behind_star g in
     let at : drop (length b.0) x ≡ b.1 = front_rest x b.0 b.1 b.2 in
     let h : Globs (star ∷ drop (suc k) p) (drop k (drop (length b.0) x)) =
-      forth s (drop (length b.0) x) (subst (λ (t : List ℕ). Globs p t) (sym at) b.3) in
+    forth s (drop (length b.0) x) (subst (λ (t : List ℕ). Globs p t) (sym at) b.3) in
     let e : drop k (drop (length b.0) x) ≡ drop (length b.0) (drop k x) =
-      drop-drop k (length b.0) x ∙ ap (λ (n : ℕ). drop n x) (add_comm (length b.0) k) ∙ sym (drop-drop (length b.0) k x) in
+    drop-drop k (length b.0) x ∙ ap (λ (n : ℕ). drop n x) (add_comm (length b.0) k) ∙ sym (drop-drop (length b.0) k x) in
     shorter (length b.0) (drop k x) (subst (λ (t : List ℕ). Globs (star ∷ drop (suc k) p) t) e h)
 
 pub star-keeps : (k : ℕ) (p x : List ℕ) → run_of p x ≡ Star k → Globs (star ∷ p) x ↔ Globs (star ∷ drop (k + 1) p) (drop k x)
@@ -237,7 +237,7 @@ pub run_of-at_star : (p x : List ℕ) (i : ℕ) → RunsFrom p x i → i < lengt
 unfolding later_by
 run_of-at_star p x i runs l e =
     let now : run_of (drop i p) (drop i x) ≡ Star 0 =
-      rw (drop-cons p i 0 l) (run_of-star (get_or p i 0) (drop (suc i) p) (drop i x) e) in
+    rw (drop-cons p i 0 l) (run_of-star (get_or p i 0) (drop (suc i) p) (drop i x) e) in
     ap (λ (n : ℕ). Star n) (omega arith) ∙ sym (runs.rest ∙ ap (later_by i) now)
 
 differs : (p x : List ℕ) (i : ℕ) → RunsFrom p x i → run_of (drop i p) (drop i x) ≡ Differs → Differs ≡ run_of p x
@@ -248,21 +248,21 @@ pub run_of-at_end : (p x : List ℕ) (i : ℕ) → RunsFrom p x i → i < length
 run_of-at_end p x i runs l n m =
     differs p x i runs
     (rw (drop-cons p i 0 l)
-      (run_of-short (get_or p i 0) (drop (suc i) p) (drop i x) n (omega (arith, length-drop i x))))
+    (run_of-short (get_or p i 0) (drop (suc i) p) (drop i x) n (omega (arith, length-drop i x))))
 
 pub run_of-at_other : (p x : List ℕ) (i : ℕ) → RunsFrom p x i → i < length p → i < length x → get_or p i 0 ≢ star → get_or p i 0 ≢ get_or x i 0 → Differs ≡ run_of p x
 run_of-at_other p x i runs l m n a =
     differs p x i runs
     (rw (drop-cons p i 0 l, drop-cons x i 0 m)
-      (run_of-apart (get_or p i 0) (get_or x i 0) (drop (suc i) p) (drop (suc i) x) n a))
+    (run_of-apart (get_or p i 0) (get_or x i 0) (drop (suc i) p) (drop (suc i) x) n a))
 
 pub RunsFrom-suc : (p x : List ℕ) (i : ℕ) → RunsFrom p x i → i < length p → i < length x → get_or p i 0 ≢ star → get_or p i 0 ≡ get_or x i 0 → RunsFrom p x (i + 1)
 RunsFrom-suc p x i runs l m n e =
     let now : run_of (drop i p) (drop i x) ≡ one_more (run_of (drop (suc i) p) (drop (suc i) x)) =
-      rw (drop-cons p i 0 l, drop-cons x i 0 m)
-      (run_of-same (get_or p i 0) (get_or x i 0) (drop (suc i) p) (drop (suc i) x) n e) in
+    rw (drop-cons p i 0 l, drop-cons x i 0 m)
+    (run_of-same (get_or p i 0) (get_or x i 0) (drop (suc i) p) (drop (suc i) x) n e) in
     let step : run_of p x ≡ later_by (i + 1) (run_of (drop (suc i) p) (drop (suc i) x)) =
-      runs.rest ∙ ap (later_by i) now ∙ later_by-one_more i (run_of (drop (suc i) p) (drop (suc i) x)) in
+    runs.rest ∙ ap (later_by i) now ∙ later_by-one_more i (run_of (drop (suc i) p) (drop (suc i) x)) in
     record {
       rest = subst (λ (k : ℕ). run_of p x ≡ later_by (i + 1) (run_of (drop k p) (drop k x))) (sym (add-one i)) step;
       within = omega arith;
@@ -275,7 +275,7 @@ drop-length (c ∷ l) = drop-length l
 at_length : (p x : List ℕ) → RunsFrom p x (length p) → run_of p x ≡ later_by (length p) (cond (eqb 0 (length x - length p)) Whole Differs)
 at_length p x runs =
     let e : run_of (drop (length p) p) (drop (length p) x) ≡ cond (eqb 0 (length x - length p)) Whole Differs =
-      rw (drop-length p, ← length-drop (length p) x) (run_of-end (drop (length p) x)) in
+    rw (drop-length p, ← length-drop (length p) x) (run_of-end (drop (length p) x)) in
     runs.rest ∙ ap (later_by (length p)) e
 
 pub run_of-same_length : (p x : List ℕ) → RunsFrom p x (length p) → length p ≡ length x → Whole ≡ run_of p x

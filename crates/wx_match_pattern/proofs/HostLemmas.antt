@@ -16,11 +16,12 @@ lowercase-dot b e =
 
 pub IsBelow-from_dot : (name host tail : List ℕ) (d : ℕ) → d < length host → get_or host d 0 ≡ dot → tail ≡ drop (d + 1) host → map to_ascii_lowercase tail ≡ map to_ascii_lowercase name → IsBelow name host
 IsBelow-from_dot name host tail d l e at same_name =
-    let cut : drop d host ≡ dot ∷ tail = drop-cons host d 0 l ∙ rw (e, at, add-one) refl in
-    (map to_ascii_lowercase (take d host),
-    ap (map to_ascii_lowercase) (sym (take-append-drop d host) ∙ ap (λ (t : List ℕ). take d host ++ t) cut)
-    ∙ map-append to_ascii_lowercase (take d host) (dot ∷ tail)
-    ∙ ap (λ (t : List ℕ). map to_ascii_lowercase (take d host) ++ dot ∷ t) same_name)
+    let cut : drop d host ≡ dot ∷ tail = drop-cons host d 0 l ∙ rw (e, at, add-one) refl in (
+      map to_ascii_lowercase (take d host),
+      ap (map to_ascii_lowercase) (sym (take-append-drop d host) ∙ ap (λ (t : List ℕ). take d host ++ t) cut)
+          ∙ map-append to_ascii_lowercase (take d host) (dot ∷ tail)
+          ∙ ap (λ (t : List ℕ). map to_ascii_lowercase (take d host) ++ dot ∷ t) same_name,
+    )
 
 dot_place : (name host : List ℕ) → (b : IsBelow name host) → length b.0 ≡ length host - length name - 1
 dot_place name host b =
@@ -36,9 +37,9 @@ dot-below name host l b =
     let d = length host - length name - 1 in
     let inside : d < length host = omega arith in
     let lower : get_or (map to_ascii_lowercase host) d 0 ≡ dot =
-      ap (λ (t : List ℕ). get_or t d 0) b.1
-      ∙ ap (λ (i : ℕ). get_or (b.0 ++ dot ∷ map to_ascii_lowercase name) i 0) (sym at)
-      ∙ get_or-append_seam b.0 dot (map to_ascii_lowercase name) 0 in
+    ap (λ (t : List ℕ). get_or t d 0) b.1
+    ∙ ap (λ (i : ℕ). get_or (b.0 ++ dot ∷ map to_ascii_lowercase name) i 0) (sym at)
+    ∙ get_or-append_seam b.0 dot (map to_ascii_lowercase name) 0 in
     lowercase-dot (get_or host d 0) (sym (get_or-map to_ascii_lowercase host d 0 0 inside) ∙ lower)
 
 pub name-below : (name host tail : List ℕ) → length name < length host → tail ≡ drop (length host - length name - 1 + 1) host → IsBelow name host → map to_ascii_lowercase tail ≡ map to_ascii_lowercase name
@@ -46,7 +47,7 @@ name-below name host tail l at b =
     let place = dot_place name host b in
     let d = length host - length name - 1 in
     let behind : drop (suc (length b.0)) (b.0 ++ dot ∷ map to_ascii_lowercase name) ≡ map to_ascii_lowercase name =
-      drop-suc_seam b.0 dot (map to_ascii_lowercase name) in
+    drop-suc_seam b.0 dot (map to_ascii_lowercase name) in
     ap (map to_ascii_lowercase) at ∙ sym (drop-map to_ascii_lowercase (d + 1) host)
     ∙ ap (drop (d + 1)) b.1
     ∙ ap (λ (i : ℕ). drop i (b.0 ++ dot ∷ map to_ascii_lowercase name)) (let e : d + 1 ≡ suc (length b.0) = omega arith in e)

@@ -5,3 +5,5 @@ mod NameLemmas
 mod PlaceLemmas
 mod ReadingLemmas
 mod SchemeLemmas
+mod UniqueLemmas
+mod Vectors

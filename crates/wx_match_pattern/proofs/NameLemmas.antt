@@ -82,11 +82,12 @@ Rest-begun inside (b ∷ bytes) =
     (name_whole true bytes) (cond (inside && eqb b dot) (name_whole false bytes) inside) P
     (λ e. at_label inside b (begun true bytes) e (Rest-begun true bytes))
     (λ e. both_cond (inside && eqb b dot) (suc (name_len false bytes)) 0 (name_whole false bytes) inside P
-      (λ d. dotted_on inside b bytes d (Rest-begun false bytes)) (λ d. stops inside))
+    (λ d. dotted_on inside b bytes d (Rest-begun false bytes)) (λ d. stops inside))
   where
     both_cond : {A B : Type 0} (t : Bool) (a1 a2 : A) (b1 b2 : B) (P : A → B → Type 0) → (t ≡ true → P a1 b1) → (t ≡ false → P a2 b2) → P (cond t a1 a2) (cond t b1 b2)
     both_cond true a1 a2 b1 b2 P yes_it no_it = yes_it refl
     both_cond false a1 a2 b1 b2 P yes_it no_it = no_it refl
+
     dotted_on : (inside : Bool) (b : ℕ) (bytes : List ℕ) → (inside && eqb b dot) ≡ true → Rest false (begun false bytes) → Rest inside (b ∷ begun false bytes)
     dotted_on true b bytes d rest = subst (λ (v : ℕ). Rest true (v ∷ begun false bytes)) (sym (eqb-true b dot d)) (at_dot (begun false bytes) rest)
     dotted_on false b bytes d rest = cc
@@ -196,9 +197,10 @@ Settled inside bytes more n w =
 settled_label : (inside : Bool) (b : ℕ) (bytes more : List ℕ) (n : ℕ) (w : Bool) → is_label_byte b ≡ true → Settled true bytes more n w → Settled inside (b ∷ bytes) more (suc n) w
 unfolding Settled
 settled_label inside b bytes more n w e h = λ l.
-    let r = h (omega arith) in
-    (name_len-label inside b (take (suc n) bytes ++ more) e ∙ ap suc r.0,
-    name_whole-label inside b (take (suc n) bytes ++ more) e ∙ r.1)
+    let r = h (omega arith) in (
+      name_len-label inside b (take (suc n) bytes ++ more) e ∙ ap suc r.0,
+      name_whole-label inside b (take (suc n) bytes ++ more) e ∙ r.1,
+    )
 
 settled_dot : (bytes more : List ℕ) (n : ℕ) (w : Bool) → Settled false bytes more n w → Settled true (dot ∷ bytes) more (suc n) w
 unfolding Settled
@@ -221,12 +223,15 @@ settled inside (b ∷ bytes) more = by (is_label_byte b) refl (settled true byte
   where
     to : (n m : ℕ) (w v : Bool) → n ≡ m → w ≡ v → Settled inside (b ∷ bytes) more m v → Settled inside (b ∷ bytes) more n w
     to n m w v e f h = rw (e, f) h
+
     at_dot_byte : (inside : Bool) → (inside && eqb b dot) ≡ true → Settled false bytes more (name_len false bytes) (name_whole false bytes) → Settled inside (b ∷ bytes) more (name_len inside (b ∷ bytes)) (name_whole inside (b ∷ bytes))
     at_dot_byte true d h = rw (eqb-true b dot d, name_len-dot bytes, name_whole-dot bytes) (settled_dot bytes more (name_len false bytes) (name_whole false bytes) h)
     at_dot_byte false d h = cc
+
     not_label : (d : Bool) → (inside && eqb b dot) ≡ d → is_label_byte b ≡ false → Settled false bytes more (name_len false bytes) (name_whole false bytes) → Settled inside (b ∷ bytes) more (name_len inside (b ∷ bytes)) (name_whole inside (b ∷ bytes))
     not_label true d e h = at_dot_byte inside d h
     not_label false d e h = to _ 0 _ inside (name_len-other inside b bytes e d) (name_whole-other inside b bytes e d) (settled_other inside b bytes more e d)
+
     by : (t : Bool) → is_label_byte b ≡ t → Settled true bytes more (name_len true bytes) (name_whole true bytes) → Settled false bytes more (name_len false bytes) (name_whole false bytes) → Settled inside (b ∷ bytes) more (name_len inside (b ∷ bytes)) (name_whole inside (b ∷ bytes))
     by true e h k = to _ (suc (name_len true bytes)) _ (name_whole true bytes) (name_len-label inside b bytes e) (name_whole-label inside b bytes e) (settled_label inside b bytes more (name_len true bytes) (name_whole true bytes) e h)
     by false e h k = not_label (inside && eqb b dot) refl e k

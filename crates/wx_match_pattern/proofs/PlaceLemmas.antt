@@ -40,8 +40,8 @@ place_at_one text =
     let of : (head : List ℕ) → Begins head → P (agreement text head) = λ head b. (head, b, refl) in
     max_cases P _ _ (of all_urls_text all)
     (max_cases P _ _ (of (scheme_head Any) (scheme Any))
-      (max_cases P _ _ (of (scheme_head Http) (scheme Http))
-        (max_cases P _ _ (of (scheme_head Https) (scheme Https)) (of (scheme_head File) (scheme File)))))
+    (max_cases P _ _ (of (scheme_head Http) (scheme Http))
+    (max_cases P _ _ (of (scheme_head Https) (scheme Https)) (of (scheme_head File) (scheme File)))))
 
 all_below_place : (text : List ℕ) → agreement text all_urls_text ≤ scheme_place text
 all_below_place text = omega arith
@@ -63,9 +63,11 @@ begins_pattern (scheme File) = (codes "/", (parts File no_host (slash ∷ []), r
 begun : (text head : List ℕ) → Begins head → IsPrefixOfPattern (take (agreement text head) text)
 begun text head b =
     let whole = begins_pattern b in
-    let n = agreement text head in
-    (drop n head ++ whole.0, subst IsPattern
-      (ap (λ (t : List ℕ). t ++ whole.0) (sym (take-agreement text head)) ∙ append_assoc (take n text) (drop n head) whole.0) whole.1)
+    let n = agreement text head in (
+      drop n head ++ whole.0,
+      subst IsPattern
+          (ap (λ (t : List ℕ). t ++ whole.0) (sym (take-agreement text head)) ∙ append_assoc (take n text) (drop n head) whole.0) whole.1,
+    )
 
 -- ---- no pattern goes further
 
@@ -84,19 +86,20 @@ goes_no_further text more says l = λ p. by p.0 p.1
   where
     at : take (scheme_place text + 1) text ++ more ≡ take (suc (scheme_place text)) text ++ more
     at = ap (λ (n : ℕ). take n text ++ more) (add-one (scheme_place text))
+
     by : (pattern : PatternParts) → IsTextOf pattern (take (scheme_place text + 1) text ++ more) → ⊥
     by all_urls is =
-      let below = all_below_place text in
-      let settled = agreement-settled text all_urls_text more (scheme_place text) below l in
-      let exact : agreement (take (suc (scheme_place text)) text ++ more) all_urls_text ≡ 10 =
+        let below = all_below_place text in
+        let settled = agreement-settled text all_urls_text more (scheme_place text) below l in
+        let exact : agreement (take (suc (scheme_place text)) text ++ more) all_urls_text ≡ 10 =
         ap (λ (t : List ℕ). agreement t all_urls_text) (sym (is.spelled ∙ at)) ∙ agreement-head all_urls_text [] in
-      let size : 10 ≡ length (take (suc (scheme_place text)) text ++ more) = ap length (is.spelled ∙ at) in
-      let sum = length-append (take (suc (scheme_place text)) text) more in
-      let front : length (take (suc (scheme_place text)) text) ≡ suc (scheme_place text) = length_take text (suc (scheme_place text)) (omega arith) in
-      omega arith
+        let size : 10 ≡ length (take (suc (scheme_place text)) text ++ more) = ap length (is.spelled ∙ at) in
+        let sum = length-append (take (suc (scheme_place text)) text) more in
+        let front : length (take (suc (scheme_place text)) text) ≡ suc (scheme_place text) = length_take text (suc (scheme_place text)) (omega arith) in
+        omega arith
     by (parts s host path_text) is =
-      let settled = agreement-settled text (scheme_head s) more (scheme_place text) (head_below_place text s) l in
-      says s (sym settled ∙ head_of s _ (host_text host ++ path_text) (is.spelled ∙ at))
+        let settled = agreement-settled text (scheme_head s) more (scheme_place text) (head_below_place text s) l in
+        says s (sym settled ∙ head_of s _ (host_text host ++ path_text) (is.spelled ∙ at))
 
 -- ---- no `://` stands before the place
 
@@ -113,8 +116,8 @@ holds-separator (b ∷ front) rest = or_right _ _ (holds-separator front rest)
 HoldsSeparator-take : (k : ℕ) (x : List ℕ) → HoldsSeparator (take k x) → holds x ≡ true
 HoldsSeparator-take k x h =
     let whole : x ≡ h.0 ++ (codes "://" ++ (h.1 ++ drop k x)) =
-      sym (take-append-drop k x) ∙ ap (λ (t : List ℕ). t ++ drop k x) h.2
-      ∙ append_assoc h.0 (codes "://" ++ h.1) (drop k x) in
+    sym (take-append-drop k x) ∙ ap (λ (t : List ℕ). t ++ drop k x) h.2
+    ∙ append_assoc h.0 (codes "://" ++ h.1) (drop k x) in
     ap holds whole ∙ holds-separator h.0 (h.1 ++ drop k x)
 
 -- a beginning but for its last byte
@@ -208,7 +211,7 @@ unfolding pattern_of Describes
 pattern_of-describes text =
     let decides = bytes_eq-Decides text all_urls_text in
     let whole : bytes_eq text all_urls_text ≡ true → IsTextOf all_urls text =
-      λ e. record { formed = tt; spelled = sym (decides.0 e) } in
+    λ e. record { formed = tt; spelled = sym (decides.0 e) } in
     cond_both (bytes_eq text all_urls_text) (Ok all_urls) (pattern_by (scheme_of text) text) (Describes text) whole
     (λ e. by-describes text (scheme_of text) (scheme_of-says text) (cond-false _ _ _ e))
 

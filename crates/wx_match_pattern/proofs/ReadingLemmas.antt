@@ -51,11 +51,11 @@ behind-whole : (scheme : SchemePart) (host : HostPart) (path_text : List ℕ) �
 unfolding front_of
 behind-whole scheme host path_text is e =
     let at : eqb (get_or (host_text host ++ path_text) (length (host_text host)) 0) slash ≡ true =
-      eq-eqb _ slash (get_or-seam (host_text host) path_text ∙ e) in
+    eq-eqb _ slash (get_or-seam (host_text host) path_text ∙ e) in
     cond-true _ _ _ at
     ∙ ap₂ (λ (h : HostPart) (p : List ℕ). Ok (parts scheme h p))
-      (ap host_part (take-append_seam (host_text host) path_text) ∙ host_part-host_text scheme host is)
-      (drop-append_seam (host_text host) path_text)
+    (ap host_part (take-append_seam (host_text host) path_text) ∙ host_part-host_text scheme host is)
+    (drop-append_seam (host_text host) path_text)
 
 pub pattern_of-text : (pattern : PatternParts) (text : List ℕ) → IsTextOf pattern text → pattern_of text ≡ Ok pattern
 unfolding pattern_of
@@ -63,7 +63,7 @@ pattern_of-text all_urls text is = ap pattern_of (sym is.spelled) ∙ refl
 pattern_of-text (parts scheme host path_text) text is =
     ap pattern_of (sym is.spelled) ∙ pattern_of-head scheme (host_text host ++ path_text)
     ∙ ap (pattern_behind scheme (host_text host ++ path_text))
-      (front-host scheme host path_text is.formed.0 (follows_path path_text is.formed.1))
+    (front-host scheme host path_text is.formed.0 (follows_path path_text is.formed.1))
     ∙ behind-whole scheme host path_text is.formed.0 is.formed.1
 
 pub no_pattern : (text : List ℕ) (fault : PatternFault) → pattern_of text ≡ Err fault → ¬ IsPattern text
@@ -98,18 +98,18 @@ behind-read scheme bytes e =
     let tests = and_parts front.whole (eqb (get_or bytes front.len 0) slash) e in
     let host = front-completes scheme bytes in
     let spelled : host_text host.0 ≡ take front.len bytes =
-      host.2 ∙ ap (λ (w : Bool). take front.len bytes ++ completion w) tests.0 ∙ append-nil (take front.len bytes) in
+    host.2 ∙ ap (λ (w : Bool). take front.len bytes ++ completion w) tests.0 ∙ append-nil (take front.len bytes) in
     let read : host_part (take front.len bytes) ≡ host.0 =
-      ap host_part (sym spelled) ∙ host_part-host_text scheme host.0 host.1 in
+    ap host_part (sym spelled) ∙ host_part-host_text scheme host.0 host.1 in
     record {
       formed = (
         subst (IsHostOf scheme) (sym read) host.1,
         first_behind bytes front.len ∙ eqb-true (get_or bytes front.len 0) slash tests.1,
       );
       spelled =
-        ap (λ (h : HostPart). scheme_head scheme ++ (host_text h ++ drop front.len bytes)) read
-        ∙ ap (λ (t : List ℕ). scheme_head scheme ++ (t ++ drop front.len bytes)) spelled
-        ∙ ap (λ (t : List ℕ). scheme_head scheme ++ t) (take-append-drop front.len bytes);
+          ap (λ (h : HostPart). scheme_head scheme ++ (host_text h ++ drop front.len bytes)) read
+          ∙ ap (λ (t : List ℕ). scheme_head scheme ++ (t ++ drop front.len bytes)) spelled
+          ∙ ap (λ (t : List ℕ). scheme_head scheme ++ t) (take-append-drop front.len bytes);
     }
   where
     first_behind : (xs : List ℕ) (n : ℕ) → get_or (drop n xs) 0 0 ≡ get_or xs n 0
@@ -136,7 +136,7 @@ no_more scheme bytes more l e =
     let front = host_front scheme bytes in
     let longer = take (suc front.len) bytes ++ more in
     let still : is_read longer front ≡ false =
-      ap (λ (b : ℕ). front.whole && eqb b slash) (get_or-take_append front.len bytes more l) ∙ e in
+    ap (λ (b : ℕ). front.whole && eqb b slash) (get_or-take_append front.len bytes more l) ∙ e in
     let settled : host_front scheme longer ≡ front = front-settled scheme bytes more l in
     let test : is_read longer (host_front scheme longer) ≡ false = ap (is_read longer) settled ∙ still in
     no_pattern (scheme_head scheme ++ longer) (fault_behind scheme longer (host_front scheme longer))
@@ -146,28 +146,33 @@ completed : (scheme : SchemePart) (bytes : List ℕ) → IsPrefixOfPattern (sche
 completed scheme bytes =
     let front = host_front scheme bytes in
     let host = front-completes scheme bytes in
-    let begun = take front.len bytes in
-    (completion front.whole ++ slash ∷ [], (parts scheme host.0 (slash ∷ []), record {
-      formed = (host.1, refl);
-      spelled =
-        ap (λ (t : List ℕ). scheme_head scheme ++ (t ++ slash ∷ [])) host.2
-        ∙ ap (λ (t : List ℕ). scheme_head scheme ++ t) (append_assoc begun (completion front.whole) (slash ∷ []))
-        ∙ sym (append_assoc (scheme_head scheme) begun (completion front.whole ++ slash ∷ []));
-    }))
+    let begun = take front.len bytes in (
+      completion front.whole ++ slash ∷ [],
+      (
+        parts scheme host.0 (slash ∷ []),
+        record {
+          formed = (host.1, refl);
+          spelled =
+              ap (λ (t : List ℕ). scheme_head scheme ++ (t ++ slash ∷ [])) host.2
+              ∙ ap (λ (t : List ℕ). scheme_head scheme ++ t) (append_assoc begun (completion front.whole) (slash ∷ []))
+              ∙ sym (append_assoc (scheme_head scheme) begun (completion front.whole ++ slash ∷ []));
+        },
+      ),
+    )
 
 -- a text that lacks only its path has a whole host in front
 lacks_whole : (scheme : SchemePart) (bytes : List ℕ) → LacksPath (scheme_head scheme ++ bytes) → ((host_front scheme bytes).whole && eqb (host_front scheme bytes).len (length bytes)) ≡ true
 unfolding front_of
 lacks_whole scheme bytes lacks =
     let same_scheme : Some lacks.0 ≡ Some scheme =
-      sym (scheme_of-head lacks.0 (host_text lacks.1)) ∙ ap scheme_of lacks.3 ∙ scheme_of-head scheme bytes in
+    sym (scheme_of-head lacks.0 (host_text lacks.1)) ∙ ap scheme_of lacks.3 ∙ scheme_of-head scheme bytes in
     let e : lacks.0 ≡ scheme = cc same_scheme in
     let text : scheme_head scheme ++ host_text lacks.1 ≡ scheme_head scheme ++ bytes =
-      subst (λ (s : SchemePart). scheme_head s ++ host_text lacks.1 ≡ scheme_head scheme ++ bytes) e lacks.3 in
+    subst (λ (s : SchemePart). scheme_head s ++ host_text lacks.1 ≡ scheme_head scheme ++ bytes) e lacks.3 in
     let host : host_text lacks.1 ≡ bytes = append_cancel_left (scheme_head scheme) (host_text lacks.1) bytes text in
     let is : IsHostOf scheme lacks.1 = subst (λ (s : SchemePart). IsHostOf s lacks.1) e lacks.2 in
     let front : host_front scheme bytes ≡ front_of (length (host_text lacks.1)) true =
-      ap (host_front scheme) (sym host ∙ sym (append-nil (host_text lacks.1))) ∙ front-host scheme lacks.1 [] is nothing in
+    ap (host_front scheme) (sym host ∙ sym (append-nil (host_text lacks.1))) ∙ front-host scheme lacks.1 [] is nothing in
     ap (λ (f : HostFront). f.whole && eqb f.len (length bytes)) front
     ∙ eq-eqb (length (host_text lacks.1)) (length bytes) (ap length host)
 
@@ -179,18 +184,22 @@ kind_of_behind scheme bytes =
     let place = length (scheme_head scheme) + front.len in
     cond_both (front.whole && eqb front.len (length bytes)) Path Host (λ k. IsOfKind k text place)
     (λ e.
-      let tests = and_parts front.whole (eqb front.len (length bytes)) e in
-      let all : front.len ≡ length bytes = eqb-true front.len (length bytes) tests.1 in
-      let host = front-completes scheme bytes in
-      let size = length-append (scheme_head scheme) bytes in
-      let spelled : host_text host.0 ≡ bytes =
-        host.2 ∙ ap (λ (w : Bool). take front.len bytes ++ completion w) tests.0 ∙ append-nil (take front.len bytes)
-        ∙ ap (λ (n : ℕ). take n bytes) all ∙ take_whole bytes in
-      (omega arith, (scheme, host.0, host.1, ap (λ (t : List ℕ). scheme_head scheme ++ t) spelled)))
-    (λ e.
-      ((scheme_text scheme, take front.len bytes,
-        take-seam_add (scheme_head scheme) bytes front.len ∙ append_assoc (scheme_text scheme) (codes "://") (take front.len bytes)),
-      λ lacks. true≢false (sym (lacks_whole scheme bytes lacks.1) ∙ e)))
+    let tests = and_parts front.whole (eqb front.len (length bytes)) e in
+    let all : front.len ≡ length bytes = eqb-true front.len (length bytes) tests.1 in
+    let host = front-completes scheme bytes in
+    let size = length-append (scheme_head scheme) bytes in
+    let spelled : host_text host.0 ≡ bytes =
+    host.2 ∙ ap (λ (w : Bool). take front.len bytes ++ completion w) tests.0 ∙ append-nil (take front.len bytes)
+    ∙ ap (λ (n : ℕ). take n bytes) all ∙ take_whole bytes in
+    (omega arith, (scheme, host.0, host.1, ap (λ (t : List ℕ). scheme_head scheme ++ t) spelled)))
+    (λ e. (
+      (
+        scheme_text scheme,
+        take front.len bytes,
+        take-seam_add (scheme_head scheme) bytes front.len ∙ append_assoc (scheme_text scheme) (codes "://") (take front.len bytes),
+      ),
+      λ lacks. true≢false (sym (lacks_whole scheme bytes lacks.1) ∙ e),
+    ))
   where
     take_whole : (xs : List ℕ) → take (length xs) xs ≡ xs
     take_whole [] = refl
@@ -208,14 +217,14 @@ behind-is_fault scheme bytes e =
       within = omega arith;
       before = subst IsPrefixOfPattern (sym (cut front.len)) (completed scheme bytes);
       faulty = λ inside p.
-        let one_more : take (length head + front.len + 1) (head ++ bytes) ≡ head ++ take (suc front.len) bytes =
+          let one_more : take (length head + front.len + 1) (head ++ bytes) ≡ head ++ take (suc front.len) bytes =
           ap (λ (n : ℕ). take n (head ++ bytes)) (let n : length head + front.len + 1 ≡ length head + suc front.len = omega arith in n)
           ∙ cut (suc front.len) in
-        no_more scheme bytes p.0 (omega arith) e
-        (subst IsPattern
+          no_more scheme bytes p.0 (omega arith) e
+          (subst IsPattern
           (ap (λ (t : List ℕ). t ++ p.0) one_more ∙ append_assoc head (take (suc front.len) bytes) p.0) p.1);
       unfinished = λ at. no_pattern (head ++ bytes) (fault_behind scheme bytes front)
-        (pattern_of-head scheme bytes ∙ behind-fault scheme bytes e);
+          (pattern_of-head scheme bytes ∙ behind-fault scheme bytes e);
       kind = kind_of_behind scheme bytes;
     }
 

@@ -42,8 +42,8 @@ Agrees-zero text head = record { rest = omega arith }
 pub Agrees-suc : (text head : List ℕ) (i : ℕ) → Agrees text head i → i < length text → i < length head → get_or text i 0 ≡ get_or head i 0 → Agrees text head (i + 1)
 Agrees-suc text head i agrees l m e =
     let step : agreement (drop i text) (drop i head) ≡ suc (agreement (drop (suc i) text) (drop (suc i) head)) =
-      rw (drop-cons text i 0 l, drop-cons head i 0 m)
-      (agreement-same (get_or text i 0) (get_or head i 0) (drop (suc i) text) (drop (suc i) head) e) in
+    rw (drop-cons text i 0 l, drop-cons head i 0 m)
+    (agreement-same (get_or text i 0) (get_or head i 0) (drop (suc i) text) (drop (suc i) head) e) in
     let given = agrees.rest in
     let next : agreement text head ≡ (i + 1) + agreement (drop (suc i) text) (drop (suc i) head) = omega arith in
     record { rest = subst (λ (k : ℕ). agreement text head ≡ (i + 1) + agreement (drop k text) (drop k head)) (sym (add-one i)) next }
@@ -51,22 +51,22 @@ Agrees-suc text head i agrees l m e =
 pub agreement-at_end : (text head : List ℕ) (i : ℕ) → Agrees text head i → length head ≤ i → i ≡ agreement text head
 agreement-at_end text head i agrees l =
     let none : agreement (drop i text) (drop i head) ≡ 0 =
-      ap (agreement (drop i text)) (drop_of_length-le head l) ∙ agreement-end (drop i text) in
+    ap (agreement (drop i text)) (drop_of_length-le head l) ∙ agreement-end (drop i text) in
     let given = agrees.rest in
     omega arith
 
 pub agreement-at_other : (text head : List ℕ) (i : ℕ) → Agrees text head i → i < length text → i < length head → get_or text i 0 ≢ get_or head i 0 → i ≡ agreement text head
 agreement-at_other text head i agrees l m n =
     let none : agreement (drop i text) (drop i head) ≡ 0 =
-      rw (drop-cons text i 0 l, drop-cons head i 0 m)
-      (agreement-other (get_or text i 0) (get_or head i 0) (drop (suc i) text) (drop (suc i) head) n) in
+    rw (drop-cons text i 0 l, drop-cons head i 0 m)
+    (agreement-other (get_or text i 0) (get_or head i 0) (drop (suc i) text) (drop (suc i) head) n) in
     let given = agrees.rest in
     omega arith
 
 pub agreement-at_length : (text head : List ℕ) (i : ℕ) → Agrees text head i → length text ≤ i → i ≡ agreement text head
 agreement-at_length text head i agrees l =
     let none : agreement (drop i text) (drop i head) ≡ 0 =
-      ap (λ (t : List ℕ). agreement t (drop i head)) (drop_of_length-le text l) ∙ agreement-start (drop i head) in
+    ap (λ (t : List ℕ). agreement t (drop i head)) (drop_of_length-le text l) ∙ agreement-start (drop i head) in
     let given = agrees.rest in
     omega arith
 
@@ -109,8 +109,8 @@ whole-agreement (b ∷ text) [] e = refl
 whole-agreement (b ∷ text) (h ∷ head) e =
     ⊎_elim
     (λ same_byte.
-      let s = agreement-same b h text head same_byte in
-      ap₂ (λ (x : ℕ) (t : List ℕ). x ∷ t) same_byte (whole-agreement text head (omega arith)))
+    let s = agreement-same b h text head same_byte in
+    ap₂ (λ (x : ℕ) (t : List ℕ). x ∷ t) same_byte (whole-agreement text head (omega arith)))
     (λ n. let z = agreement-other b h text head n in absurd (omega arith)) (cases_eq b h)
 
 -- with more behind the first place that does not agree, the agreement stays
@@ -123,9 +123,9 @@ agreement-settled (b ∷ text) (h ∷ head) more zero l m =
 agreement-settled (b ∷ text) (h ∷ head) more (suc k) l m =
     ⊎_elim
     (λ e.
-      let s = agreement-same b h text head e in
-      agreement-same b h (take (suc k) text ++ more) head e
-      ∙ ap suc (agreement-settled text head more k (omega arith) (omega arith)) ∙ sym s)
+    let s = agreement-same b h text head e in
+    agreement-same b h (take (suc k) text ++ more) head e
+    ∙ ap suc (agreement-settled text head more k (omega arith) (omega arith)) ∙ sym s)
     (λ n. agreement-other b h (take (suc k) text ++ more) head n ∙ sym (agreement-other b h text head n)) (cases_eq b h)
 
 -- ---- the scheme
@@ -149,13 +149,14 @@ scheme_of-says text =
     let file = starts-says text (scheme_head File) in
     let P : Option SchemePart → Type 0 = λ s. SchemeSays s text in
     cond_both (starts_with nat_eq text (scheme_head Any)) (Some Any) _ P any.0 (λ not_any.
-      cond_both (starts_with nat_eq text (scheme_head Http)) (Some Http) _ P http.0 (λ not_http.
-        cond_both (starts_with nat_eq text (scheme_head Https)) (Some Https) _ P https.0 (λ not_https.
-          cond_both (starts_with nat_eq text (scheme_head File)) (Some File) None P file.0 (λ not_file.
-            by_scheme (any.1 not_any) (http.1 not_http) (https.1 not_https) (file.1 not_file)))))
+    cond_both (starts_with nat_eq text (scheme_head Http)) (Some Http) _ P http.0 (λ not_http.
+    cond_both (starts_with nat_eq text (scheme_head Https)) (Some Https) _ P https.0 (λ not_https.
+    cond_both (starts_with nat_eq text (scheme_head File)) (Some File) None P file.0 (λ not_file.
+    by_scheme (any.1 not_any) (http.1 not_http) (https.1 not_https) (file.1 not_file)))))
   where
     Lacks : SchemePart → Type 0
     Lacks scheme = agreement text (scheme_head scheme) ≢ length (scheme_head scheme)
+
     by_scheme : Lacks Any → Lacks Http → Lacks Https → Lacks File → (scheme : SchemePart) → Lacks scheme
     by_scheme a b c d Any = a
     by_scheme a b c d Http = b

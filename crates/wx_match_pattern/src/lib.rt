@@ -6,10 +6,15 @@
 
 mod fault;
 mod glob;
+mod law;
 mod parts;
 mod pattern;
 mod reading;
 mod slices;
 
 pub use fault::{PatternFault, PatternKind, PatternReadFault};
+pub use law::one_pattern_or_fault;
 pub use pattern::Pattern;
+
+#[cfg(test)]
+mod tests;

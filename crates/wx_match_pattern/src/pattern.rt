@@ -76,5 +76,6 @@ impl Pattern {
 fn path_and_query(url: &Url) -> &[u8]
     ensures { result.now ≡ meets.path_and_query url.now }
 {
-    url.slice(Position::BeforePath, Position::AfterQuery).as_bytes()
+    url.slice(Position::BeforePath, Position::AfterQuery)
+        .as_bytes()
 }

@@ -13,12 +13,12 @@ returns-then-byte-eq42-clause-value c =
 pub returns-then-i-text-clause-value : goal.returns-then-i-text-clause-value
 returns-then-i-text-clause-value c =
     elim c.then-i-text.branch [
-      then-i-text-via-then-i-text w ↦
-        run_of-at_end c.args.pattern.now c.args.text.now c.loop-i.i c.loop-i.invariant (omega arith) c.if-byte-eq42.false
-        (omega arith)
+      | then-i-text-via-then-i-text w ↦
+          run_of-at_end c.args.pattern.now c.args.text.now c.loop-i.i c.loop-i.invariant (omega arith) c.if-byte-eq42.false
+          (omega arith)
       | then-i-text-via-else-i-text+then-text-i w ↦
-        run_of-at_other c.args.pattern.now c.args.text.now c.loop-i.i c.loop-i.invariant (omega arith) (omega arith)
-        c.if-byte-eq42.false (λ e. omega arith)
+          run_of-at_other c.args.pattern.now c.args.text.now c.loop-i.i c.loop-i.invariant (omega arith) (omega arith)
+          c.if-byte-eq42.false (λ e. omega arith)
     ]
 
 pub loop-i-preserved : goal.loop-i-preserved

@@ -6,11 +6,11 @@ use Rattle.wx_match_pattern.proofs.reading.agreement.Goals.{then-i-head-via-then
 pub returns-then-i-head : goal.returns-then-i-head
 returns-then-i-head c =
     elim c.then-i-head.branch [
-      then-i-head-via-then-i-head w ↦
-        agreement-at_end c.args.text.now c.args.head.now c.loop-i.i c.loop-i.invariant (omega arith)
+      | then-i-head-via-then-i-head w ↦
+          agreement-at_end c.args.text.now c.args.head.now c.loop-i.i c.loop-i.invariant (omega arith)
       | then-i-head-via-else-i-head+then-head-i w ↦
-        agreement-at_other c.args.text.now c.args.head.now c.loop-i.i c.loop-i.invariant c.loop-i-test.true (omega arith)
-        (λ e. omega arith)
+          agreement-at_other c.args.text.now c.args.head.now c.loop-i.i c.loop-i.invariant c.loop-i-test.true (omega arith)
+          (λ e. omega arith)
     ]
 
 pub loop-i-preserved : goal.loop-i-preserved

@@ -11,11 +11,11 @@ stops : (c : goal.Joined-else-inside) → (c.loop-i.i ≡ name_len false c.args.
 stops c =
     let byte = get_or c.args.bytes.now c.loop-i.i 0 in
     let no_dot : (c.loop-i.inside && eqb byte dot) ≡ false =
-      elim c.else-inside.branch [
-        else-inside-via-then-inside+else-byte-eq46 w ↦
+    elim c.else-inside.branch [
+      | else-inside-via-then-inside+else-byte-eq46 w ↦
           and_right c.loop-i.inside (eqb byte dot) (ne_eqb byte dot w.if-byte-eq46.false)
-        | else-inside-via-else-inside w ↦ and_left c.loop-i.inside (eqb byte dot) w.if-inside.false
-      ] in
+      | else-inside-via-else-inside w ↦ and_left c.loop-i.inside (eqb byte dot) w.if-inside.false
+    ] in
     Reads-other c.args.bytes.now c.loop-i.i c.loop-i.inside c.loop-i.invariant c.loop-i-test.true
     (sym c.is_label_byte.ensures ∙ c.if-is_label_byte.false) no_dot
 
@@ -28,13 +28,13 @@ returns-else-inside-clause-whole c = (stops c).1
 pub loop-i-preserved : goal.loop-i-preserved
 loop-i-preserved c =
     elim c.if-is_label_byte.branch [
-      then-is_label_byte w ↦
-        subst (λ (b : Bool). Reads c.args.bytes.now (c.loop-i.i + 1) b) (sym w.inside-is)
-        (Reads-label c.args.bytes.now c.loop-i.i c.loop-i.inside c.loop-i.invariant c.loop-i-test.true
+      | then-is_label_byte w ↦
+          subst (λ (b : Bool). Reads c.args.bytes.now (c.loop-i.i + 1) b) (sym w.inside-is)
+          (Reads-label c.args.bytes.now c.loop-i.i c.loop-i.inside c.loop-i.invariant c.loop-i-test.true
           (sym c.is_label_byte.ensures ∙ w.if-is_label_byte.true))
       | else-is_label_byte+then-inside+then-byte-eq46 w ↦
-        subst (λ (b : Bool). Reads c.args.bytes.now (c.loop-i.i + 1) b) (sym w.inside-is)
-        (Reads-dot c.args.bytes.now c.loop-i.i
+          subst (λ (b : Bool). Reads c.args.bytes.now (c.loop-i.i + 1) b) (sym w.inside-is)
+          (Reads-dot c.args.bytes.now c.loop-i.i
           (subst (λ (b : Bool). Reads c.args.bytes.now c.loop-i.i b) w.if-inside.true c.loop-i.invariant)
           c.loop-i-test.true w.if-byte-eq46.true)
     ]

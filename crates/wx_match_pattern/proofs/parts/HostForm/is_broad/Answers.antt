@@ -9,4 +9,4 @@ returns-in-Below c =
     let stored = rw c.in-Below.is at c.requires in
     rw c.in-Below.is
     (lone_label c.in-Below.name.items c.contains.result stored
-      (c.contains.ensures.value ∙ ap (λ (t : List ℕ). list_any (λ b. eqb b dot) t) c.deref.ensures.value))
+    (c.contains.ensures.value ∙ ap (λ (t : List ℕ). list_any (λ b. eqb b dot) t) c.deref.ensures.value))

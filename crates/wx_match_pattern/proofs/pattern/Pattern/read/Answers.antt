@@ -15,7 +15,7 @@ read_as c =
 pub returns-in_err-form-clause-bad : goal.returns-in_err-form-clause-bad
 returns-in_err-form-clause-bad c =
     let gives : Gives (Err c.in_err-form.field-0.0) (pattern_of c.args.text.now) =
-      rw (sym c.as_bytes.ensures.value) c.in_err-form.ensures in
+    rw (sym c.as_bytes.ensures.value) c.in_err-form.ensures in
     let p = err_from_is_err_and c.from_residual.result c.from_residual.ensures.1 in
     rw (p.1, p.2) (read-bad c.args.text.now c.in_err-form.field-0.0 gives)
 
