@@ -1,11 +1,11 @@
-use Rattle.std.proofs.Common.{◌≡◌, ◌≢◌, refl, sym, ap, ap₂, subst, ◌∙◌, ⊎_elim, ℕ, suc, ◌+◌, ◌-◌, ◌<◌, ◌≤◌, Bool, true, false, ◌&&◌, List, [], ◌∷◌, ◌++◌, length, take, drop, get_or, arith, eqb, eqb-true, ne_eqb, eq-eqb, cond, append-nil, length-append, true≢false}
+use Rattle.std.proofs.Common.{◌≡◌, refl, sym, ap, ap₂, subst, ◌∙◌, ⊎_elim, ℕ, suc, ◌+◌, ◌<◌, ◌≤◌, Bool, true, false, List, [], ◌∷◌, ◌++◌, length, take, arith, eqb, eqb-true, ne_eqb, eq-eqb, true≢false}
 use Rattle.std.proofs.lemmas.Bool.{cases_Bool}
 use Rattle.url.specs.Ascii.{dot, slash}
 use Rattle.wx_match_pattern.specs.declared.parts.SchemePart.{SchemePart}
 use Rattle.wx_match_pattern.specs.declared.parts.SchemePart.TheVariants.{Any, Http, Https, File}
 use Rattle.wx_match_pattern.specs.declared.reading.HostFront.{HostFront}
 use Rattle.wx_match_pattern.specs.Globs.{star}
-use Rattle.wx_match_pattern.specs.Pattern.{is_label_byte, IsName, HostPart, no_host, any_host, below, named, host_text, IsWebHost, IsHostOf}
+use Rattle.wx_match_pattern.specs.Pattern.{is_label_byte, HostPart, no_host, any_host, below, named, host_text, IsWebHost, IsHostOf}
 use Rattle.wx_match_pattern.specs.Reading.{name_len, name_whole, web_host_front, host_front, host_part}
 use Rattle.wx_match_pattern.proofs.NameLemmas.{completion, IsName-begun, name_len-within, name_len-settled, name_whole-settled, Follows, nothing, path, name_len-name, name_whole-name, first_of_name}
 

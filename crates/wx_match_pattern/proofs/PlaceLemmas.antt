@@ -1,9 +1,8 @@
-use Rattle.std.proofs.Common.{◌≡◌, ◌≢◌, refl, sym, ap, ap₂, subst, ◌∙◌, ⊎_elim, ◌⊎◌, inl, inr, ℕ, suc, zero, ◌+◌, ◌-◌, ◌<◌, ◌≤◌, max, Bool, true, false, ◌||◌, List, [], ◌∷◌, ◌++◌, length, take, drop, arith, append-nil, append_assoc, length-append, true≢false, take-append-drop, add-one, length-take}
+use Rattle.std.proofs.Common.{◌≡◌, refl, sym, ap, ap₂, subst, ◌∙◌, ⊎_elim, ℕ, suc, zero, ◌+◌, ◌<◌, ◌≤◌, max, Bool, true, false, ◌||◌, List, [], ◌∷◌, ◌++◌, length, take, drop, arith, append_assoc, length-append, true≢false, take-append-drop, add-one}
 use Rattle.std.proofs.lemmas.List.{take-append-le}
-use Rattle.std.proofs.lemmas.Bool.{cond_both, or_left, or_right, cases_lt, cond-false}
-use Rattle.std.proofs.lemmas.Slice.Eq.{bytes_eq-Decides, starts_is}
-use Rattle.std.proofs.lemmas.Bool.Decides.{Decides-eqb}
-use Rattle.std.specs.Prelude.{Result, Ok, Err, MatchResult, Option, Some, None, bytes_eq, nat_eq, codes}
+use Rattle.std.proofs.lemmas.Bool.{cond_both, or_right, cases_lt, cond-false}
+use Rattle.std.proofs.lemmas.Slice.Eq.{bytes_eq-Decides}
+use Rattle.std.specs.Prelude.{Ok, Err, Option, Some, None, bytes_eq, nat_eq, codes}
 use Rattle.std.specs.List.{starts_with}
 use Rattle.url.specs.Ascii.{slash}
 use Rattle.wx_match_pattern.specs.declared.parts.SchemePart.{SchemePart}
@@ -13,11 +12,11 @@ use Rattle.wx_match_pattern.specs.declared.fault.PatternKind.TheVariants.{Scheme
 use Rattle.wx_match_pattern.specs.declared.fault.PatternReadFault.{PatternReadFault}
 use Rattle.wx_match_pattern.specs.declared.fault.PatternReadFault.TheVariants.{Bad, NoMemory}
 use Rattle.wx_match_pattern.specs.Answers.{BadIs, Gives}
-use Rattle.wx_match_pattern.specs.Faults.{IsPrefixOfPattern, HoldsSeparator, IsOfKind, IsFault}
-use Rattle.wx_match_pattern.specs.Pattern.{HostPart, no_host, any_host, PatternParts, all_urls, parts, scheme_head, host_text, pattern_text, all_urls_text, IsHostOf, IsTextOf, IsPattern}
+use Rattle.wx_match_pattern.specs.Faults.{IsPrefixOfPattern, HoldsSeparator, IsFault}
+use Rattle.wx_match_pattern.specs.Pattern.{no_host, any_host, PatternParts, all_urls, parts, scheme_head, host_text, all_urls_text, IsTextOf, IsPattern}
 use Rattle.wx_match_pattern.specs.Reading.{pattern_by, pattern_behind, pattern_of, host_front, scheme_of, scheme_place, agreement}
 use Rattle.wx_match_pattern.proofs.SchemeLemmas.{agreement-within_text, agreement-within_head, take-agreement, agreement-settled, agreement-head, SchemeSays, scheme_of-says}
-use Rattle.wx_match_pattern.proofs.ReadingLemmas.{Parsed, Describes, no_pattern, behind-describes}
+use Rattle.wx_match_pattern.proofs.ReadingLemmas.{Describes, no_pattern, behind-describes}
 
 -- a beginning of a pattern: `<all_urls>`, or a head, without its last byte in the place of a whole head
 data Begins : List ℕ → Type 0 where

@@ -1,19 +1,18 @@
-use Rattle.std.proofs.Common.{◌≡◌, ◌≢◌, refl, sym, ap, ap₂, subst, ◌∙◌, ⊎_elim, ◌⊎◌, inl, inr, ℕ, suc, ◌+◌, ◌-◌, ◌<◌, ◌≤◌, max, Bool, true, false, ◌&&◌, List, [], ◌∷◌, ◌++◌, length, take, drop, get_or, arith, eqb, eqb-true, ne_eqb, eq-eqb, cond, append-nil, append_assoc, length-append, true≢false, take-append-drop, add-one, get_or-drop, length-take, take-take, zero}
+use Rattle.std.proofs.Common.{◌≡◌, refl, sym, ap, ap₂, subst, ◌∙◌, ℕ, suc, ◌+◌, ◌<◌, Bool, true, false, ◌&&◌, List, [], ◌∷◌, ◌++◌, length, take, drop, get_or, arith, eqb, eqb-true, eq-eqb, cond, append-nil, append_assoc, length-append, true≢false, take-append-drop, zero}
 use Rattle.std.proofs.lemmas.List.{append_cancel_left}
-use Rattle.std.proofs.lemmas.Bool.{cases_Bool, cond_both, and_parts, and_from, cond-true, cond-false, eqb-false}
-use Rattle.std.proofs.lemmas.Slice.Eq.{bytes_eq-Decides}
+use Rattle.std.proofs.lemmas.Bool.{cond_both, and_parts, cond-true, cond-false}
 use Rattle.std.proofs.Math.Seq.{drop-append_seam, take-append_seam}
-use Rattle.std.specs.Prelude.{Result, Ok, Err, MatchResult, Option, Some, None, bytes_eq, codes}
+use Rattle.std.specs.Prelude.{Result, Ok, Err, MatchResult, Some, codes}
 use Rattle.url.specs.Ascii.{slash}
 use Rattle.wx_match_pattern.specs.declared.parts.SchemePart.{SchemePart}
 use Rattle.wx_match_pattern.specs.declared.parts.SchemePart.TheVariants.{Any, Http, Https, File}
 use Rattle.wx_match_pattern.specs.declared.fault.PatternFault.{PatternFault}
 use Rattle.wx_match_pattern.specs.declared.fault.PatternKind.{PatternKind}
-use Rattle.wx_match_pattern.specs.declared.fault.PatternKind.TheVariants.{Scheme, Host, Path}
+use Rattle.wx_match_pattern.specs.declared.fault.PatternKind.TheVariants.{Host, Path}
 use Rattle.wx_match_pattern.specs.declared.reading.HostFront.{HostFront}
-use Rattle.wx_match_pattern.specs.Faults.{IsPrefixOfPattern, HoldsSeparator, LacksPath, IsOfKind, IsFault}
-use Rattle.wx_match_pattern.specs.Pattern.{HostPart, no_host, any_host, PatternParts, all_urls, parts, scheme_text, scheme_head, host_text, pattern_text, all_urls_text, IsHostOf, IsWellFormed, IsTextOf, IsPattern}
-use Rattle.wx_match_pattern.specs.Reading.{host_front, host_part, pattern_behind, pattern_by, pattern_of, scheme_of, scheme_place, agreement}
+use Rattle.wx_match_pattern.specs.Faults.{IsPrefixOfPattern, LacksPath, IsOfKind, IsFault}
+use Rattle.wx_match_pattern.specs.Pattern.{HostPart, PatternParts, all_urls, parts, scheme_text, scheme_head, host_text, IsHostOf, IsTextOf, IsPattern}
+use Rattle.wx_match_pattern.specs.Reading.{host_front, host_part, pattern_behind, pattern_of, scheme_of}
 use Rattle.wx_match_pattern.proofs.FrontLemmas.{front_of, front-within, front-completes, front-settled, front-host, host_part-host_text}
 use Rattle.wx_match_pattern.proofs.NameLemmas.{completion, Follows, nothing, path}
 

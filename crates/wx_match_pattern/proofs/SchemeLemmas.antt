@@ -1,7 +1,7 @@
-use Rattle.std.proofs.Common.{◌≡◌, ◌≢◌, refl, sym, ap, subst, ◌∙◌, ℕ, suc, ◌+◌, ◌-◌, ◌<◌, ◌≤◌, max, Bool, true, false, List, [], ◌∷◌, ◌++◌, length, take, drop, get_or, drop-cons, arith, eqb, eqb-true, eq-eqb, ne_eqb, cond, add-one, length-append, ⊎_elim, zero, ap₂, append-nil, take-append-drop, true≢false}
+use Rattle.std.proofs.Common.{◌≡◌, ◌≢◌, refl, sym, ap, subst, ◌∙◌, ℕ, suc, ◌+◌, ◌<◌, ◌≤◌, true, false, List, [], ◌∷◌, ◌++◌, length, take, drop, get_or, drop-cons, arith, eq-eqb, ne_eqb, add-one, ⊎_elim, zero, ap₂, true≢false}
 use Rattle.std.proofs.lemmas.Bool.{cases_eq}
 use Rattle.std.proofs.Math.ListN.{drop_of_length-le}
-use Rattle.wx_match_pattern.specs.Reading.{agreement, scheme_of, scheme_place}
+use Rattle.wx_match_pattern.specs.Reading.{agreement, scheme_of}
 use Rattle.std.specs.Prelude.{Option, Some, None, nat_eq}
 use Rattle.std.specs.List.{starts_with}
 use Rattle.std.proofs.lemmas.Slice.Eq.{starts_is}
@@ -9,7 +9,7 @@ use Rattle.std.proofs.lemmas.Bool.{cond_both}
 use Rattle.std.proofs.lemmas.Bool.Decides.{Decides-eqb}
 use Rattle.wx_match_pattern.specs.declared.parts.SchemePart.{SchemePart}
 use Rattle.wx_match_pattern.specs.declared.parts.SchemePart.TheVariants.{Any, Http, Https, File}
-use Rattle.wx_match_pattern.specs.Pattern.{scheme_head, all_urls_text}
+use Rattle.wx_match_pattern.specs.Pattern.{scheme_head}
 
 -- ---- one byte
 

@@ -1,4 +1,4 @@
-use Rattle.std.proofs.Common.{◌≡◌, refl, sym, ap, ap₂, subst, ◌∙◌, ⊎_elim, ℕ, ◌+◌, ◌-◌, ◌<◌, ◌≤◌, List, [], ◌∷◌, ◌++◌, length, take, drop, arith, append_assoc, take-append-drop}
+use Rattle.std.proofs.Common.{◌≡◌, refl, sym, ap, ap₂, subst, ◌∙◌, ⊎_elim, ℕ, ◌+◌, ◌<◌, ◌≤◌, List, ◌++◌, length, take, drop, arith, append_assoc, take-append-drop}
 use Rattle.std.proofs.lemmas.Bool.{cases_order}
 use Rattle.std.proofs.lemmas.List.{take_all, take-take}
 use Rattle.std.specs.Prelude.{Result, Ok, Err, codes, MatchResult}
@@ -6,10 +6,10 @@ use Rattle.wx_match_pattern.specs.declared.fault.PatternFault.{PatternFault}
 use Rattle.wx_match_pattern.specs.declared.fault.PatternKind.{PatternKind}
 use Rattle.wx_match_pattern.specs.declared.fault.PatternKind.TheVariants.{Scheme, Host, Path}
 use Rattle.wx_match_pattern.specs.Faults.{IsPrefixOfPattern, HoldsSeparator, LacksPath, IsOfKind, IsFault}
-use Rattle.wx_match_pattern.specs.Pattern.{PatternParts, scheme_text, scheme_head, host_text, IsTextOf, IsPattern}
+use Rattle.wx_match_pattern.specs.Pattern.{PatternParts, scheme_text, host_text, IsTextOf, IsPattern}
 use Rattle.wx_match_pattern.specs.Reading.{pattern_of}
 use Rattle.wx_match_pattern.proofs.PlaceLemmas.{pattern_of-describes}
-use Rattle.wx_match_pattern.proofs.ReadingLemmas.{Describes, pattern_of-text}
+use Rattle.wx_match_pattern.proofs.ReadingLemmas.{Describes}
 
 -- the front of a prefix of a pattern is one
 earlier : (text : List ℕ) (m n : ℕ) → m ≤ n → IsPrefixOfPattern (take n text) → IsPrefixOfPattern (take m text)

@@ -1,11 +1,10 @@
 -- The definitions at worked examples, computed.
-use Rattle.std.specs.Prelude.{◌≡◌, refl, ℕ, List, [], ◌∷◌, Result, Ok, Err, codes}
-use Rattle.url.specs.Ascii.{slash}
-use Rattle.wx_match_pattern.specs.declared.parts.SchemePart.TheVariants.{Any, Http, Https, File}
+use Rattle.std.specs.Prelude.{◌≡◌, refl, ℕ, Result, Ok, Err, codes}
+use Rattle.wx_match_pattern.specs.declared.parts.SchemePart.TheVariants.{Any, File}
 use Rattle.wx_match_pattern.specs.declared.fault.PatternFault.{PatternFault}
 use Rattle.wx_match_pattern.specs.declared.fault.PatternKind.{PatternKind}
 use Rattle.wx_match_pattern.specs.declared.fault.PatternKind.TheVariants.{Scheme, Host, Path}
-use Rattle.wx_match_pattern.specs.Pattern.{PatternParts, all_urls, parts, no_host, any_host, below, named}
+use Rattle.wx_match_pattern.specs.Pattern.{PatternParts, all_urls, parts, no_host, below}
 use Rattle.wx_match_pattern.specs.Reading.{pattern_of, agreement, name_len, name_whole}
 
 bad : ℕ → PatternKind → Result PatternParts PatternFault

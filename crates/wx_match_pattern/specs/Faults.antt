@@ -1,5 +1,5 @@
 -- The first place at which a text stops being a pattern.
-use Rattle.std.specs.Prelude.{◌≡◌, ℕ, ◌+◌, ◌<◌, ◌≤◌, List, [], ◌∷◌, ◌++◌, length, take, codes}
+use Rattle.std.specs.Prelude.{◌≡◌, ℕ, ◌+◌, ◌<◌, ◌≤◌, List, ◌++◌, length, take, codes}
 use Rattle.wx_match_pattern.specs.declared.parts.SchemePart.{SchemePart}
 use Rattle.wx_match_pattern.specs.declared.fault.PatternFault.{PatternFault}
 use Rattle.wx_match_pattern.specs.declared.fault.PatternKind.{PatternKind}

@@ -1,5 +1,5 @@
 -- When a pattern matches a URL, as the crate `url` states the URL's parts.
-use Rattle.std.specs.Prelude.{◌≡◌, ℕ, ◌⊎◌, List, [], ◌∷◌, ◌++◌, codes, Option, Some, None, option_map, IsNone}
+use Rattle.std.specs.Prelude.{◌≡◌, ℕ, ◌⊎◌, List, [], ◌∷◌, ◌++◌, codes, Option, Some, None, option_map}
 use Rattle.url.specs.Ascii.{dot, question_mark}
 use Rattle.url.specs.Input.{lowercase}
 use Rattle.url.specs.Host as url_host

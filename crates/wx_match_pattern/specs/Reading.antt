@@ -5,7 +5,6 @@ use Rattle.url.specs.Ascii.{dot, slash}
 use Rattle.wx_match_pattern.specs.declared.parts.SchemePart.{SchemePart}
 use Rattle.wx_match_pattern.specs.declared.parts.SchemePart.TheVariants.{Any, Http, Https, File}
 use Rattle.wx_match_pattern.specs.declared.fault.PatternFault.{PatternFault}
-use Rattle.wx_match_pattern.specs.declared.fault.PatternKind.{PatternKind}
 use Rattle.wx_match_pattern.specs.declared.fault.PatternKind.TheVariants.{Scheme, Host, Path}
 use Rattle.wx_match_pattern.specs.declared.reading.HostFront.{HostFront}
 use Rattle.wx_match_pattern.specs.Pattern.{is_label_byte, HostPart, no_host, any_host, below, named, PatternParts, all_urls, parts, scheme_head, all_urls_text}

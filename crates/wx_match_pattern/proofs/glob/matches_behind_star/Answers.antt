@@ -1,4 +1,4 @@
-use Rattle.std.proofs.Common.{arith, ◌≡◌, ◌≢◌, ℕ, length, sym, eqb, eqb-true, rules, ◌∙◌}
+use Rattle.std.proofs.Common.{◌≡◌, ◌≢◌, length, sym, eqb-true, rules, ◌∙◌}
 use Rattle.std.proofs.lemmas.Bool.{eqb-false}
 use Rattle.wx_match_pattern.proofs.GlobLemmas.{behind-whole, behind-star, behind-differs, behind-end}
 use Rattle.wx_match_pattern.proofs.glob.matches_behind_star.Goals as goal

@@ -1,4 +1,4 @@
-use Rattle.std.proofs.Common.{arith, ℕ, ◌-◌, length, eqb, eqb-true}
+use Rattle.std.proofs.Common.{arith, ◌-◌, length, eqb-true}
 use Rattle.wx_match_pattern.proofs.HostLemmas.{IsBelow-from_dot, dot-below, name-below}
 use Rattle.wx_match_pattern.proofs.parts.is_below.Goals as goal
 

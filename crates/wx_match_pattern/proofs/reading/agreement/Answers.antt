@@ -1,5 +1,5 @@
-use Rattle.std.proofs.Common.{arith, sym, ◌∙◌, ◌≡◌, length}
-use Rattle.wx_match_pattern.proofs.SchemeLemmas.{Agrees-zero, Agrees-suc, agreement-at_end, agreement-at_other, agreement-at_length}
+use Rattle.std.proofs.Common.{arith, ◌∙◌, ◌≡◌, length}
+use Rattle.wx_match_pattern.proofs.SchemeLemmas.{Agrees-suc, agreement-at_end, agreement-at_other, agreement-at_length}
 use Rattle.wx_match_pattern.proofs.reading.agreement.Goals as goal
 use Rattle.wx_match_pattern.proofs.reading.agreement.Goals.{then-i-head-via-then-i-head, then-i-head-via-else-i-head+then-head-i}
 

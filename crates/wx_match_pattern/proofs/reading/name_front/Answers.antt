@@ -1,7 +1,6 @@
-use Rattle.std.proofs.Common.{arith, sym, ◌∙◌, ◌≡◌, ◌&&◌, ◌+◌, ℕ, Bool, true, false, eqb, get_or, length, ne_eqb, subst}
+use Rattle.std.proofs.Common.{arith, sym, ◌∙◌, ◌≡◌, ◌&&◌, ◌+◌, Bool, false, eqb, get_or, length, ne_eqb, subst}
 use Rattle.std.proofs.lemmas.Bool.{and_left, and_right}
 use Rattle.url.specs.Ascii.{dot}
-use Rattle.wx_match_pattern.specs.Pattern.{is_label_byte}
 use Rattle.wx_match_pattern.specs.Reading.{name_len, name_whole}
 use Rattle.wx_match_pattern.proofs.NameLemmas.{Reads, Reads-label, Reads-dot, Reads-other, Reads-end}
 use Rattle.wx_match_pattern.proofs.reading.name_front.Goals as goal

@@ -1,5 +1,5 @@
 use Rattle.std.proofs.lemmas.Result.{err_from_is_err_and}
-use Rattle.std.proofs.Common.{ap, sym, ◌∙◌, ◌≡◌, List, ℕ, subst, Err}
+use Rattle.std.proofs.Common.{ap, sym, ◌∙◌, Err}
 use Rattle.wx_match_pattern.specs.Answers.{Gives}
 use Rattle.wx_match_pattern.specs.Pattern.{IsTextOf}
 use Rattle.wx_match_pattern.specs.Reading.{pattern_of}
