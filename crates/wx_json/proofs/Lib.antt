@@ -20,5 +20,6 @@ pub mod Leading
 pub mod OneFault
 pub mod Vectors
 pub mod Lanes
-pub mod Runs
+pub mod MaskedRuns
 pub mod PlainRuns
+pub mod WhiteRuns
