@@ -20,6 +20,7 @@ pub mod Leading
 pub mod OneFault
 pub mod Vectors
 pub mod Lanes
-pub mod Runs
+pub mod MaskedRuns
 pub mod PlainRuns
 pub mod TestLaws
+pub mod WhiteRuns

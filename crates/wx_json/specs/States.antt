@@ -40,6 +40,10 @@ coding_of s =
 abbrev pub is_in_string : ℕ → Bool
 is_in_string s = s == 0x73 || s == 0x53
 
+-- the states behind a bracket that opens and behind a comma, where white space changes nothing
+abbrev pub is_between_values : ℕ → Bool
+is_between_values s = s == 0x41 || s == 0x4F || s == 0x57 || s == 0x4E
+
 -- the states where a text may end, outside of all containers
 abbrev pub is_end : ℕ → Bool
 is_end s = s == 0x5A || s == 0x7A || s == 0x6E || s == 0x63 || s == 0x77

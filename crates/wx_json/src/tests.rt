@@ -64,7 +64,7 @@ fn numbers(rt: HostRuntime) -> Result<(), Fail> {
 }
 
 #[test]
-fn strings(rt: HostRuntime) -> Result<(), Fail> {
+fn strings_and_white_space(rt: HostRuntime) -> Result<(), Fail> {
     judged(&rt, b"\"\\ud800\"", Ok(()));
     judged(&rt, b"\"\\uDC00 \\\"\\u00e9\"", Ok(()));
     judged(&rt, "\"\u{e9}\u{65e5}\u{1f980}\"".as_bytes(), Ok(()));
@@ -72,6 +72,16 @@ fn strings(rt: HostRuntime) -> Result<(), Fail> {
         &rt,
         b" {\"a\\n\" : [1.5e-3, true, null, {}, [ ]] } ",
         Ok(()),
+    );
+    judged(
+        &rt,
+        b"[\n                                        1,\n  2]",
+        Ok(()),
+    );
+    judged(
+        &rt,
+        b"[1,\n                                        \x0B2]",
+        at(44, JsonKind::Syntax),
     );
     for c in 0..0x20 {
         judged(&rt, &[b'"', c, b'"'], at(1, JsonKind::Syntax));

@@ -1,6 +1,8 @@
 //! The automaton over JSON and UTF-8 as a table: which state a byte leads to from which.
 //!
-//! A state is a letter. Capitals in brackets are the same places in a member's name.
+//! A byte costs one look-up from its state, so states are numbers, and the table is written in letters so that it can
+//! be read. It is held to the automata of `specs/` at each state and byte by the proof of `transition`.
+//! Capitals in brackets are the same places in a member's name.
 //!
 //! | State | Where the check stands |
 //! |---|---|
@@ -16,30 +18,30 @@
 //! | `x` `y` `w` | behind an exponent's E; its sign; its digits |
 //! | `P` `Q` `R`, `L` `M` `X` `Y`, `l` `q` `r` | behind so many letters of `true`, `false`, `null` |
 ghost use Rattle.std.specs.Prelude.{◌≡◌, ◌≤◌, ◌-◌, ◌<◌, ℕ, List, Bool, true, length, take, drop, get_or};
-ghost use Rattle.wx_json.specs.States.{is_state, is_in_string, mode_of, coding_of, entered, next_of, Leads, LeadsAt, Asks, CommaLeads};
+ghost use Rattle.wx_json.specs.States.{is_state, is_in_string, is_between_values, mode_of, coding_of, entered, next_of, Leads, LeadsAt, Asks, CommaLeads};
 ghost use Rattle.wx_json.specs.Check.{running, advance};
 
-use crate::plain::plain_end;
+use crate::runs::{indent_end, plain_end};
 
-/// An entry from here on is the next state. One below asks for more than a state.
+/// An entry from here on is the next state. One below asks for more than a state:
 pub(crate) const FIRST_STATE: u8 = b'@';
-/// A string that is no name goes on.
+/// a string that is no name goes on,
 pub(crate) const STRING: u8 = b'+';
-/// A member's name goes on.
+/// a member's name goes on,
 pub(crate) const NAME: u8 = b'*';
-
+/// a comma behind a value,
 pub(crate) const COMMA: u8 = b',';
-
+/// an array or an object opens,
 pub(crate) const OPEN_ARRAY: u8 = b'(';
 
 pub(crate) const OPEN_OBJECT: u8 = b'<';
-/// The container that has just been opened closes.
+/// the container that has just been opened closes, an array, an object,
 pub(crate) const CLOSE_EMPTY: u8 = b'-';
 
 pub(crate) const CLOSE_ARRAY: u8 = b')';
 
 pub(crate) const CLOSE_OBJECT: u8 = b'>';
-/// No UTF-8 text has the byte here. Any other entry is a fault of syntax.
+/// no UTF-8 text has the byte here. Any other entry is a fault of syntax.
 pub(crate) const BAD_UTF8: u8 = b'!';
 
 /// The class of each byte, from `0` on: the row of the table.
@@ -107,6 +109,7 @@ pub(crate) struct Stop {
     pub entry: u8,
 }
 
+/// The entry for a byte at a state.
 #[inline(always)]
 fn transition(state: usize, c: u8) -> u8
     requires { is_state state ≡ true }
@@ -157,15 +160,25 @@ fn in_string(state: u8) -> bool
     state == b's' || state == b'S'
 }
 
-/// Passes over the plain bytes of a string, if one is being read.
+/// Whether the state is behind a bracket that opens or a comma.
 #[inline(always)]
-fn skip_plain(state: u8, piece: &[u8], from: usize) -> usize
+fn between_values(state: u8) -> bool
+    ensures { result ≡ is_between_values state }
+{
+    state == b'A' || state == b'O' || state == b'W' || state == b'N'
+}
+
+/// Passes over bytes that leave the state as it is: plain ones of a string, and a line's end and indent.
+#[inline(always)]
+fn skip(state: u8, piece: &[u8], from: usize) -> usize
     requires { from ≤ length piece.now }
     ensures bounds { (from ≤ result) × (result ≤ length piece.now) }
     ensures value { Leads state state (take (result - from) (drop from piece.now)) (result - from) }
 {
     if in_string(state) {
         plain_end(piece, from)
+    } else if between_values(state) {
+        indent_end(piece, from)
     } else {
         from
     }
@@ -201,7 +214,7 @@ pub(crate) fn travel(start: u8, after_comma: u8, piece: &[u8], from: usize) -> S
     let mut state = start;
     let mut at = from;
     while at < piece.len() {
-        let begin = skip_plain(state, piece, at);
+        let begin = skip(state, piece, at);
         let stop = follow(state, piece, begin);
         let next = plain_next(stop.entry, after_comma);
         if next < FIRST_STATE || stop.at == piece.len() {

@@ -2,7 +2,7 @@ use Rattle.std.proofs.Common.{arith}
 use Rattle.std.proofs.lemmas.Simd.{zip2_splat}
 use Rattle.wx_json.specs.Plain.{is_stop}
 use Rattle.wx_json.proofs.Lanes.{hit, below, at_most, either, masked, from_splat, as_is}
-use Rattle.wx_json.proofs.plain.stops.Goals as goal
+use Rattle.wx_json.proofs.runs.stops.Goals as goal
 
 pub returns : goal.returns
 returns c =

@@ -1,8 +1,8 @@
 use Rattle.std.proofs.Common.{refl, sym, ap, ◌∙◌, arith}
 use lib.Count.{count_trailing_zeros}
 use Rattle.wx_json.specs.Plain.{is_stop, is_plain}
-use Rattle.wx_json.proofs.Runs.{run_bound, run_through, run_stops}
-use Rattle.wx_json.proofs.plain.plain_end.Goals as goal
+use Rattle.wx_json.proofs.MaskedRuns.{run_bound, run_through, run_stops}
+use Rattle.wx_json.proofs.runs.plain_end.Goals as goal
 
 pub returns-then-found-ne0-clause-value : goal.returns-then-found-ne0-clause-value
 returns-then-found-ne0-clause-value c =

@@ -1,7 +1,7 @@
 use Rattle.std.proofs.Common.{◌≡◌, ◌+◌, ◌-◌, ◌≤◌, length, drop}
 use Rattle.std.specs.List.{prefix_len}
 use Rattle.wx_json.specs.Plain.{is_plain}
-use Rattle.wx_json.proofs.plain.plain_end.Given as goal
+use Rattle.wx_json.proofs.runs.plain_end_slowly.Given as goal
 
 abbrev pub invariant-loop-i : goal.invariant-loop-i
 invariant-loop-i l =
