@@ -3,10 +3,12 @@
 
 mod events;
 mod extension;
+mod host_name;
 mod numbers;
 mod texts;
 
 pub use events::{End, Event, EventKind};
 pub use extension::{BadId, ExtensionId};
+pub use host_name::{HostName, HostNameFault};
 pub use numbers::{ChannelNo, ContextNo, EntryNo, FrameId, HostNo, RequestNo, TabId};
 pub use texts::{NoMemory, Utf8Text};
