@@ -1,6 +1,6 @@
 -- The ids of extensions.
-use Rattle.std.specs.Prelude.{ℕ, Bool, ◌&&◌, not, List, length, take, position, unwrap_or, ◌==◌, nat_le}
-use Rattle.std.specs.List.{list_all}
+use Rattle.std.specs.Prelude.{ℕ, Bool, ◌&&◌, min, List, length, ◌==◌, nat_le}
+use Rattle.std.specs.List.{list_all, prefix_len}
 
 -- `a` to `p`
 abbrev pub is_id_letter : ℕ → Bool
@@ -10,6 +10,6 @@ is_id_letter b = nat_le 97 b && nat_le b 112
 abbrev pub is_extension_id : List ℕ → Bool
 is_extension_id text = list_all is_id_letter text && (length text == 32)
 
--- the place of the first byte that is no such letter or stands at 32; a shorter text of good letters has its length
+-- the place of the first byte that is no such letter or stands at 32; a shorter text of such letters has its length
 abbrev pub bad_place : List ℕ → ℕ
-bad_place text = unwrap_or (position (λ b. not (is_id_letter b)) (take 32 text)) (length (take 32 text))
+bad_place text = min 32 (prefix_len is_id_letter text)

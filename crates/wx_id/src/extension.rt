@@ -1,4 +1,5 @@
 ghost use Rattle.std.specs.Prelude.{◌≡◌, ◌↔◌, IsTrue, IsOk, IfOk, IfErr};
+ghost use Rattle.std.specs.List.{prefix_len};
 ghost use Rattle.wx_id.specs.Ids as ids;
 
 use std::marker::Model;
@@ -35,22 +36,30 @@ fn is_id_letter(byte: u8) -> bool
     b'a' <= byte && byte <= b'p'
 }
 
+/// How many letters of an id stand in front.
+fn letters_in_front(text: &[u8]) -> usize
+    ensures { result ≡ prefix_len ids.is_id_letter text.now }
+{
+    for (i, byte) in text.iter().enumerate() {
+        if !is_id_letter(*byte) {
+            return i;
+        }
+    }
+    text.len()
+}
+
 impl ExtensionId {
     /// Reads the id that these bytes are.
+    #[tactic(auto, using(crate::proofs::IdLemmas::is_extension_id_from_letters, crate::proofs::IdLemmas::letters_from_is_extension_id))]
     pub fn read(text: &[u8]) -> Result<ExtensionId, BadId>
         ensures exact { IsOk result ↔ IsTrue (ids.is_extension_id text.now) }
         ensures ok { IfOk result (λ id. id ≡ text.now) }
         ensures place { IfErr result (λ bad. bad.place ≡ ids.bad_place text.now) }
     {
-        let front = &text[..text.len().min(32)];
-        if let Some(place) = front.iter().position(|byte| !is_id_letter(*byte)) {
+        let letters_in_front = letters_in_front(text);
+        if letters_in_front < 32 || text.len() != 32 {
             return Err(BadId {
-                place: place as u64,
-            });
-        }
-        if text.len() != 32 {
-            return Err(BadId {
-                place: front.len() as u64,
+                place: letters_in_front.min(32) as u64,
             });
         }
         let mut letters = [0u8; 32];
@@ -59,10 +68,14 @@ impl ExtensionId {
     }
 
     /// Its 32 letters.
+    #[tactic(auto, using(crate::proofs::IdLemmas::ids_are_utf8))]
     pub fn text(&self) -> &str
         ensures value { result.now ≡ self.now }
         ensures sort { IsTrue (ids.is_extension_id self.now) }
     {
-        str::from_utf8(&self.letters).unwrap_or("")
+        match str::from_utf8(&self.letters) {
+            Ok(text) => text,
+            Err(_) => unreachable!(),
+        }
     }
 }

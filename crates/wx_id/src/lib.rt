@@ -5,6 +5,8 @@ mod events;
 mod extension;
 mod host_name;
 mod numbers;
+#[cfg(test)]
+mod tests;
 mod texts;
 
 pub use events::{End, Event, EventKind};
