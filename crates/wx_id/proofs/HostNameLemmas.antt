@@ -1,14 +1,14 @@
 -- The scan of a host name against its grammar.
-use Rattle.std.proofs.Common.{◌≡◌, ℕ, zero, suc, ◌+◌, ◌-◌, ◌<◌, ◌≤◌, ◌∷◌, ◌++◌, List, [], length, take, get_or, refl, Bool, true, false, cond, Option, Some, None, arith, ap, sym, ◌∙◌, inl, inr}
-use Rattle.std.specs.Prelude.{◌&&◌, ◌↔◌, IfSome, IsNone, ◌||◌, not, IsTrue, ◌==◌, nat_le, nat_lt, ◌⊎◌}
-use Rattle.std.specs.List.{list_all, AllPass}
+use Rattle.std.proofs.Common.{◌≡◌, ℕ, zero, suc, ◌+◌, ◌-◌, ◌<◌, ◌≤◌, ◌∷◌, ◌++◌, List, [], length, take, get_or, refl, Bool, true, false, Option, Some, None, arith, ap, sym, ◌∙◌, inl, inr}
+use Rattle.std.specs.Prelude.{◌↔◌, IfSome, IsNone, ◌||◌, IsTrue}
+use Rattle.std.specs.List.{list_all}
 use Rattle.std.specs.Str.{IsUtf8}
 use Rattle.std.proofs.lemmas.Bool.{cases_Bool, cond-true, cond-false}
 use Rattle.std.proofs.lemmas.Bool.Decides.{nat_tests}
 use Rattle.std.proofs.lemmas.List.Sums.{AllPass-from_list_all}
 use Rattle.std.proofs.lemmas.Str.{IsUtf8-from_ascii}
 use Rattle.std.proofs.lemmas.Str.Ascii.{IsAscii-from_all}
-use Rattle.wx_id.specs.HostNames.{is_word_byte, is_dot, dots_stand_apart, is_host_name, BeginsHostName, IsHostNameFault, may_stand, fault_from, host_name_fault}
+use Rattle.wx_id.specs.HostNames.{is_word_byte, is_dot, dots_stand_apart, is_host_name, IsHostNameFault, may_stand, fault_from, host_name_fault}
 
 -- what a host name owes behind its first n bytes
 record Owes (n : ℕ) (edge : Bool) (text : List ℕ) : Type 0 where
@@ -83,11 +83,11 @@ fault_ahead n false [] p h = absurd (let e = h in grind arith)
 fault_ahead n edge (b ∷ rest) p h =
     elim (cases_Bool (may_stand n edge b)) [
       | inl s ↦
-        let ahead = fault_ahead (suc n) (is_dot b) rest p (sym (cond-true (may_stand n edge b) _ (Some n) s) ∙ h) in
-        (omega arith, omega arith)
+          let ahead = fault_ahead (suc n) (is_dot b) rest p (sym (cond-true (may_stand n edge b) _ (Some n) s) ∙ h) in
+          (omega arith, omega arith)
       | inr s ↦
-        let e : n ≡ p = let h' = sym (cond-false (may_stand n edge b) (fault_from (suc n) (is_dot b) rest) (Some n) s) ∙ h in grind arith in
-        (omega arith, omega arith)
+          let e : n ≡ p = let h' = sym (cond-false (may_stand n edge b) (fault_from (suc n) (is_dot b) rest) (Some n) s) ∙ h in grind arith in
+          (omega arith, omega arith)
     ]
 
 -- what follows a byte that may not stand changes nothing
@@ -97,20 +97,20 @@ fault-cut n edge [] k h le c = absurd (omega arith)
 fault-cut n edge (b ∷ rest) zero h le c =
     elim (cases_Bool (may_stand n edge b)) [
       | inl s ↦
-        let ahead = fault_ahead (suc n) (is_dot b) rest (n + 0) (sym (cond-true (may_stand n edge b) _ (Some n) s) ∙ h) in
-        absurd (omega arith)
+          let ahead = fault_ahead (suc n) (is_dot b) rest (n + 0) (sym (cond-true (may_stand n edge b) _ (Some n) s) ∙ h) in
+          absurd (omega arith)
       | inr s ↦ cond-false (may_stand n edge b) _ (Some n) s ∙ ap Some (omega arith)
     ]
 fault-cut n edge (b ∷ rest) (suc k) h le c =
     elim (cases_Bool (may_stand n edge b)) [
       | inl s ↦
-        let e : n + suc k ≡ suc n + k = omega arith in
-        cond-true (may_stand n edge b) _ (Some n) s
-        ∙ fault-cut (suc n) (is_dot b) rest k (sym (cond-true (may_stand n edge b) _ (Some n) s) ∙ h ∙ ap Some e) (omega arith) c
-        ∙ ap Some (sym e)
+          let e : n + suc k ≡ suc n + k = omega arith in
+          cond-true (may_stand n edge b) _ (Some n) s
+          ∙ fault-cut (suc n) (is_dot b) rest k (sym (cond-true (may_stand n edge b) _ (Some n) s) ∙ h ∙ ap Some e) (omega arith) c
+          ∙ ap Some (sym e)
       | inr s ↦
-        let e : n ≡ n + suc k = let h' = sym (cond-false (may_stand n edge b) (fault_from (suc n) (is_dot b) rest) (Some n) s) ∙ h in grind arith in
-        absurd (omega arith)
+          let e : n ≡ n + suc k = let h' = sym (cond-false (may_stand n edge b) (fault_from (suc n) (is_dot b) rest) (Some n) s) ∙ h in grind arith in
+          absurd (omega arith)
     ]
 
 -- a letter ends what stops at an edge
@@ -130,13 +130,13 @@ fault-front n edge [] k h room (suc j) le =
 fault-front n edge (b ∷ rest) k h room (suc j) le =
     elim (cases_Bool (may_stand n edge b)) [
       | inl s ↦
-        let ahead = fault_ahead (suc n) (is_dot b) rest (n + k) (sym (cond-true (may_stand n edge b) _ (Some n) s) ∙ h) in
-        let e : n + k ≡ suc n + (k - 1) = omega arith in
-        let found = fault-front (suc n) (is_dot b) rest (k - 1) (sym (cond-true (may_stand n edge b) _ (Some n) s) ∙ h ∙ ap Some e) (edge_room n edge b s) j (omega arith) in
-        (found.0, cond-true (may_stand n edge b) _ (Some n) s ∙ found.1)
+          let ahead = fault_ahead (suc n) (is_dot b) rest (n + k) (sym (cond-true (may_stand n edge b) _ (Some n) s) ∙ h) in
+          let e : n + k ≡ suc n + (k - 1) = omega arith in
+          let found = fault-front (suc n) (is_dot b) rest (k - 1) (sym (cond-true (may_stand n edge b) _ (Some n) s) ∙ h ∙ ap Some e) (edge_room n edge b s) j (omega arith) in
+          (found.0, cond-true (may_stand n edge b) _ (Some n) s ∙ found.1)
       | inr s ↦
-        let e : n ≡ n + k = let h' = sym (cond-false (may_stand n edge b) (fault_from (suc n) (is_dot b) rest) (Some n) s) ∙ h in grind arith in
-        absurd (omega arith)
+          let e : n ≡ n + k = let h' = sym (cond-false (may_stand n edge b) (fault_from (suc n) (is_dot b) rest) (Some n) s) ∙ h in grind arith in
+          absurd (omega arith)
     ]
 
 pub is_host_name_fault : (text : List ℕ) (p : ℕ) → host_name_fault text ≡ Some p → IsHostNameFault text p
@@ -146,12 +146,12 @@ is_host_name_fault text p h =
     record {
       within = omega arith;
       least = λ q le. let found = fault-front 0 true text p h' (λ _. omega arith) q le in
-        (found.0, host_name_from_no_fault (take q text ++ found.0) found.1);
+          (found.0, host_name_from_no_fault (take q text ++ found.0) found.1);
       begins_none = λ short begins. let none = no_fault_from_host_name (take (p + 1) text ++ begins.0) begins.1 in
-        let some = fault-cut 0 true text p h' short begins.0 in
-        let e : p + 1 ≡ suc p = omega arith in
-        let none' = rw e at none in
-        cc;
+          let some = fault-cut 0 true text p h' short begins.0 in
+          let e : p + 1 ≡ suc p = omega arith in
+          let none' = rw e at none in
+          cc;
       is_none = λ _ name. let none = no_fault_from_host_name text name in cc;
     }
 
