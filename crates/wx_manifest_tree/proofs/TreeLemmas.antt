@@ -1,9 +1,9 @@
 -- A tree read from bytes, and arrays of strings by place.
-use Rattle.std.proofs.Common.{◌≡◌, ℕ, zero, suc, ◌+◌, ◌<◌, ◌≤◌, ◌∷◌, List, [], length, get_or, refl, Bool, true, false, cond, Option, Some, None, Result, Ok, Err, arith, ap, sym, ◌∙◌, inl, inr, Bor}
-use Rattle.std.specs.Prelude.{IsSome, IfOk, is_some, slice_get, option_and_then, option_map, unwrap_or, IsUtf8}
+use Rattle.std.proofs.Common.{◌≡◌, ℕ, zero, suc, ◌<◌, ◌∷◌, List, [], length, get_or, refl, true, false, Option, Some, None, arith, ap, sym, ◌∙◌, inl, inr}
+use Rattle.std.specs.Prelude.{IsSome, is_some, slice_get, option_and_then, option_map, unwrap_or, IsUtf8}
 use Rattle.std.specs.Str.{is_utf8}
 use Rattle.std.proofs.lemmas.Bool.{cases_Bool, cond-true, cond-false}
-use Rattle.std.proofs.lemmas.Option.{slice_get_past}
+use Rattle.std.proofs.lemmas.Option.{slice_get-get_or}
 use Rattle.std.proofs.lemmas.Str.{IsUtf8-from_is_utf8, is_utf8-from_IsUtf8}
 use Rattle.serde_json.specs.Data.{Data}
 use Rattle.serde_json.specs.Read.{read}
@@ -43,9 +43,6 @@ length-texts_of (v ∷ vs) texts h =
     let parts = text_first (as_str (view v)) (texts_of (items_view vs)) texts h in
     rw (parts.4, length-texts_of vs parts.1 parts.3) refl
 
-get_past : (vs : List Value) (texts : List (List ℕ)) → texts_of (items_view vs) ≡ Some texts → (i : ℕ) → length vs ≤ i → slice_get texts i ≡ None
-get_past vs texts h i past = slice_get_past texts i (let e = length-texts_of vs texts h in omega arith)
-
 -- the text at a place is that of the member at that place
 get_within : (vs : List Value) (texts : List (List ℕ)) → texts_of (items_view vs) ≡ Some texts
     → (i : ℕ) (d : Value) → i < length vs → slice_get texts i ≡ as_str (view (get_or vs i d))
@@ -64,10 +61,18 @@ is_its_texts None h = absurd (grind arith)
 pub length-texts : (vs : List Value) → IsSome (texts_of (items_view vs)) → length vs ≡ length (unwrap_or (texts_of (items_view vs)) [])
 length-texts vs h = sym (length-texts_of vs _ (is_its_texts (texts_of (items_view vs)) h))
 
-pub slice_get-texts_past : (vs : List Value) → IsSome (texts_of (items_view vs)) → (i : ℕ) → length vs ≤ i
-    → slice_get (unwrap_or (texts_of (items_view vs)) []) i ≡ None
-slice_get-texts_past vs h = get_past vs _ (is_its_texts (texts_of (items_view vs)) h)
-
 pub slice_get-texts : (vs : List Value) → IsSome (texts_of (items_view vs)) → (i : ℕ) (d : Value) → i < length vs
     → slice_get (unwrap_or (texts_of (items_view vs)) []) i ≡ as_str (view (get_or vs i d))
 slice_get-texts vs h = get_within vs _ (is_its_texts (texts_of (items_view vs)) h)
+
+pub within_members : (vs : List Value) (texts : List (List ℕ)) → unwrap_or (texts_of (items_view vs)) [] ≡ texts → IsSome (texts_of (items_view vs))
+    → (i : ℕ) → i < length texts → i < length vs
+within_members vs texts is h i le = let e = length-texts vs h in let f = ap length is in omega arith
+
+pub as_str-at : (vs : List Value) (texts : List (List ℕ)) → unwrap_or (texts_of (items_view vs)) [] ≡ texts → IsSome (texts_of (items_view vs))
+    → (i : ℕ) (v : Value) → i < length texts → v ≡ get_or vs i v → slice_get texts i ≡ as_str (view v)
+as_str-at vs texts is h i v le here =
+    (rw (← is) (slice_get-texts vs h i v (within_members vs texts is h i le))) ∙ ap (λ w. as_str (view w)) (sym here)
+
+pub slice_get-within : (texts : List (List ℕ)) (i : ℕ) → i < length texts → slice_get texts i ≡ None → ⊥
+slice_get-within texts i le none = let some = slice_get-get_or texts i [] le in cc

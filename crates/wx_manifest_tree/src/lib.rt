@@ -1,7 +1,7 @@
 //! A manifest's bytes as a tree, and what stands under its keys.
 #![tactic(auto)]
 
-ghost use Rattle.std.specs.Prelude.{◌≡◌, Some, None, IfOk, length, option_map, slice_get, is_some};
+ghost use Rattle.std.specs.Prelude.{◌≡◌, Some, None, IfOk, ◌<◌, length, slice_get, is_some};
 ghost use Rattle.serde_json.specs.Find.{get, as_str};
 ghost use Rattle.serde_json.specs.View.{view, items_view};
 ghost use Rattle.wx_manifest_tree.specs.Tree.{object_of, required, texts_of, as_texts, lent};
@@ -120,13 +120,14 @@ impl<'v> Texts<'v> {
     }
 
     /// The text at a place, from 0.
-    pub fn get(&self, place: usize) -> Option<&'v str>
-        ensures { option_map (λ text. text.now) result ≡ slice_get self.now place }
+    pub fn at(&self, place: usize) -> &'v str
+        requires { place < length self.now }
+        ensures { slice_get self.now place ≡ Some result.now }
     {
-        if place < self.members.len() {
-            self.members[place].as_str()
-        } else {
-            None
+        let members = self.members;
+        match members[place].as_str() {
+            Some(text) => text,
+            None => unreachable!(),
         }
     }
 }
