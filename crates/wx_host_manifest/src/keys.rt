@@ -41,6 +41,7 @@ fn is_file_of(file_name: &str, name: &str) -> bool
     }
 }
 
+#[tactic(auto, unfolding(crate::specs::HostManifests::name_of))]
 pub(crate) fn name_of<'v>(tree: &'v Value, file_name: &str) -> Result<&'v str, HostFault>
     ensures value { lent result ≡ hosts.name_of file_name.now (view tree.now) }
     ensures sort { IfOk result (λ name. IsTrue (is_host_name name.now)) }
@@ -55,6 +56,7 @@ pub(crate) fn name_of<'v>(tree: &'v Value, file_name: &str) -> Result<&'v str, H
     Ok(name)
 }
 
+#[tactic(auto, unfolding(crate::specs::HostManifests::path_of))]
 pub(crate) fn path_of(tree: &Value) -> Result<&str, HostFault>
     ensures { lent result ≡ hosts.path_of (view tree.now) }
 {
@@ -65,6 +67,7 @@ pub(crate) fn path_of(tree: &Value) -> Result<&str, HostFault>
     Ok(path)
 }
 
+#[tactic(auto, unfolding(crate::specs::HostManifests::kind_of))]
 pub(crate) fn check_kind(tree: &Value) -> Result<(), HostFault>
     ensures { result ≡ hosts.kind_of (view tree.now) }
 {
@@ -76,19 +79,19 @@ pub(crate) fn check_kind(tree: &Value) -> Result<(), HostFault>
 }
 
 /// The place of the first text that is no origin.
+#[tactic(auto, using(crate::proofs::KeyLemmas::bad_here))]
 fn bad_origin(origins: &Texts<'_>) -> Option<u64>
     ensures { result ≡ position_from (λ text. not (is_origin text)) 0 origins.now }
 {
     for place in 0..origins.len() {
-        if let Some(text) = origins.get(place)
-            && read_origin(text).is_none()
-        {
+        if read_origin(origins.at(place)).is_none() {
             return Some(place as u64);
         }
     }
     None
 }
 
+#[tactic(auto, using(crate::proofs::KeyLemmas::all_origins), unfolding(crate::specs::HostManifests::origins_of))]
 pub(crate) fn origins_of(tree: &Value) -> Result<Texts<'_>, HostFault>
     ensures value { result ≡ hosts.origins_of (view tree.now) }
     ensures sort { IfOk result (λ origins. IsTrue (list_all is_origin origins)) }

@@ -31,16 +31,17 @@ impl Model for HostManifest {
 }
 
 /// The extensions whose origins these are.
+#[tactic(auto, using(crate::proofs::KeyLemmas::never_other, crate::proofs::KeyLemmas::callers_more))]
 fn callers_of(alloc: Global, origins: &Texts<'_>) -> Result<Vec<ExtensionId>, NoMemory>
     requires { IsTrue (list_all is_origin origins.now) }
     ensures { IfOk result (λ callers. map origin_of callers.items ≡ origins.now) }
 {
     let mut callers = Vec::new(alloc);
     for place in 0..origins.len() {
-        if let Some(text) = origins.get(place)
-            && let Some(caller) = read_origin(text)
-            && callers.push(caller).is_err()
-        {
+        let Some(caller) = read_origin(origins.at(place)) else {
+            unreachable!()
+        };
+        if callers.push(caller).is_err() {
             return Err(NoMemory);
         }
     }
@@ -52,6 +53,7 @@ impl HostManifest {
 
     /// Reads the manifest that stands in the file of this name: Chrome's "Native messaging", with the tests in the
     /// order name, description, path, type, allowed origins. Only want of memory is answered without its cause.
+    #[tactic(auto, unfolding(crate::specs::HostManifests::host_of))]
     pub fn read(alloc: Global, file_name: &str, bytes: &[u8]) -> Result<HostManifest, HostFault>
         ensures ok { IfOk result (λ m. host_of file_name.now bytes.now ≡ Ok m) }
         ensures err { IfErr result (λ fault. fault ≢ HostFault.NoMemory

@@ -33,6 +33,7 @@ impl<'v> Parts<'v> {
     ghost use Rattle.wx_host_manifest.specs.HostManifests.{host_in};
 
     /// What the manifest in the file of that name holds.
+    #[tactic(auto, unfolding(crate::specs::HostManifests::host_in))]
     pub(crate) fn of(tree: &'v Value, file_name: &str) -> Result<Parts<'v>, HostFault>
         ensures { result ≡ host_in file_name.now (view tree.now) }
     {
