@@ -60,9 +60,9 @@ pub origin_from_some : (x id : List ℕ) → Some id ≡ caller_of x → (is_ori
 origin_from_some x id h =
     elim (cases_Bool (is_origin x)) [
       | inl is ↦
-        let some = h ∙ cond-true (is_origin x) (Some (id_in x)) None is in
-        let same : id ≡ id_in x = cc in
-        (is, ap origin_of same ∙ sym (origin_is x is).1)
+          let some = h ∙ cond-true (is_origin x) (Some (id_in x)) None is in
+          let same : id ≡ id_in x = cc in
+          (is, ap origin_of same ∙ sym (origin_is x is).1)
       | inr is ↦ let none = cond-false (is_origin x) (Some (id_in x)) None is in absurd (cc)
     ]
 
@@ -86,7 +86,7 @@ all_origins [] n h = refl
 all_origins (x ∷ xs) n h =
     elim (cases_Bool (is_origin x)) [
       | inl is ↦ and_from (is_origin x) (list_all is_origin xs) is
-        (all_origins xs (n + 1) (sym (cond-false (is_other x) _ _ (not_from_true (is_origin x) is)) ∙ h))
+          (all_origins xs (n + 1) (sym (cond-false (is_other x) _ _ (not_from_true (is_origin x) is)) ∙ h))
       | inr is ↦ let some = sym (cond-true (is_other x) (Some n) (position_from is_other (n + 1) xs) (not_from_false (is_origin x) is)) ∙ h in absurd (cc)
     ]
 

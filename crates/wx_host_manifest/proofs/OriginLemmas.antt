@@ -33,10 +33,10 @@ caller_of-no_slash s x cut none =
 pub caller_of-no_id : (s x id : List ℕ) → s ≡ codes "chrome-extension://" ++ x → x ≡ id ++ codes "/" → (is_extension_id id ≡ true → ⊥) → None ≡ caller_of s
 caller_of-no_id s x id cut end none =
     not_origin s (λ is.
-      let origin = origin_is s is in
-      let tail = append_cancel_left (codes "chrome-extension://") x (id_in s ++ codes "/") (sym cut ∙ origin.1) in
-      let same = append_cancel_right id (id_in s) (codes "/") (sym end ∙ tail) in
-      none (ap is_extension_id same ∙ origin.0))
+    let origin = origin_is s is in
+    let tail = append_cancel_left (codes "chrome-extension://") x (id_in s ++ codes "/") (sym cut ∙ origin.1) in
+    let same = append_cancel_right id (id_in s) (codes "/") (sym end ∙ tail) in
+    none (ap is_extension_id same ∙ origin.0))
 
 id_length : (id : List ℕ) → is_extension_id id ≡ true → length id ≡ 32
 id_length id h = grind (arith, nat_tests)
