@@ -4,7 +4,7 @@
 ghost use Rattle.std.specs.Prelude.{◌≡◌, Some, None, IfOk, ◌<◌, length, slice_get, is_some};
 ghost use Rattle.serde_json.specs.Find.{get, as_str};
 ghost use Rattle.serde_json.specs.View.{view, items_view};
-ghost use Rattle.wx_manifest_tree.specs.Tree.{object_of, required, texts_of, as_texts, lent};
+ghost use Rattle.wx_manifest_tree.specs.Tree.{object_of, required, optional, texts_of, as_texts, lent};
 
 use serde_json::Value;
 use std::alloc::Global;
@@ -74,6 +74,19 @@ pub fn texts_at<'v>(tree: &'v Value, key: &str) -> Result<Texts<'v>, KeyFault>
             None => Err(KeyFault::WrongKind),
             Some(texts) => Ok(texts),
         },
+    }
+}
+
+/// The texts under a key that may be absent, and else has an array of strings.
+pub fn optional_texts_at<'v>(tree: &'v Value, key: &str) -> Result<Option<Texts<'v>>, KeyFault>
+    ensures { result ≡ optional as_texts (get key.now (view tree.now)) }
+{
+    let Some(value) = tree.get(key) else {
+        return Ok(None);
+    };
+    match Texts::of(value) {
+        None => Err(KeyFault::WrongKind),
+        Some(texts) => Ok(Some(texts)),
     }
 }
 
