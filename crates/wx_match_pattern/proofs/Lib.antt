@@ -1,0 +1,9 @@
+mod FrontLemmas
+mod GlobLemmas
+mod HostLemmas
+mod NameLemmas
+mod PlaceLemmas
+mod ReadingLemmas
+mod SchemeLemmas
+mod UniqueLemmas
+mod Vectors
