@@ -1,0 +1,29 @@
+-- What a call carries, and an answer that tells an event.
+use Rattle.std.specs.Prelude.{ℕ, List, Bool, true, false}
+use Rattle.wx_machine.specs.declared.entries.Call.{Call}
+use Rattle.wx_machine.specs.declared.entries.Call.TheVariants.{Connect, Post}
+use Rattle.wx_machine.specs.declared.entries.Answer.{Answer}
+use Rattle.wx_machine.specs.declared.entries.Answer.TheVariants.{Event as Told}
+
+abbrev pub is_connect : Call → Bool
+is_connect (Connect target name) = true
+is_connect _ = false
+
+abbrev pub is_post : Call → Bool
+is_post (Post k text) = true
+is_post _ = false
+
+-- a fact of the port name that a connect carries
+abbrev pub IfConnect : Call → (List ℕ → Type 0) → Type 0
+IfConnect (Connect target name) P = P name
+IfConnect _ P = Unit {0}
+
+-- a fact of the message that a post carries
+abbrev pub IfPost : Call → (List ℕ → Type 0) → Type 0
+IfPost (Post k text) P = P text
+IfPost _ P = Unit {0}
+
+-- the answer tells an event
+abbrev pub is_event : Answer → Bool
+is_event (Told event) = true
+is_event _ = false

@@ -1,0 +1,107 @@
+//! The machine's answers, found by walking the journal.
+ghost use Rattle.std.specs.Prelude.{◌≡◌, cond, length, reverse};
+ghost use Rattle.wx_machine.specs.Contexts.{is_live, receivers_of, Connection};
+ghost use Rattle.wx_machine.specs.Channels.{channels, channel, end_in, is_closed};
+ghost use Rattle.wx_machine.specs.Events.{pending, first};
+ghost use Rattle.wx_machine.specs.Answers.{at_end, told_or_empty, where_heard, where_short, longest};
+
+use wx_id::{ChannelNo, ContextNo, End};
+use wx_machine::{Answer, Entry, JsonText, Target};
+use wx_walks::{channels, closing, contexts, events};
+
+/// The longest text that is passed on, in bytes.
+const LONGEST: u64 = 67_108_864;
+
+/// The answer to a call that needs only a live caller.
+pub fn done_if_live(entries: &[Entry], c: ContextNo) -> Answer
+    ensures { result ≡ cond (is_live (reverse entries.now) c) Answer.Done Answer.Gone }
+{
+    if contexts::is_live(entries, c) {
+        Answer::Done
+    } else {
+        Answer::Gone
+    }
+}
+
+/// The answer to a connect.
+pub fn connect(entries: &[Entry], c: ContextNo, target: Target) -> Answer
+    ensures { result ≡ cond (is_live (reverse entries.now) c) (where_heard (receivers_of (reverse entries.now) c target Connection) (Answer.Channel (record { 0 = length (channels (reverse entries.now)) }))) Answer.Gone }
+{
+    if !contexts::is_live(entries, c) {
+        return Answer::Gone;
+    }
+    if contexts::has_receiver(entries, c, target) {
+        Answer::Channel(ChannelNo(channels::count(entries)))
+    } else {
+        Answer::NoReceiver
+    }
+}
+
+/// The answer to a post.
+pub fn post(entries: &[Entry], c: ContextNo, k: ChannelNo, text: &JsonText) -> Answer
+    ensures { result ≡ cond (is_live (reverse entries.now) c) (at_end (end_in (channel (reverse entries.now) k.0) c) (is_closed (reverse entries.now) k.0) Answer.PortClosed (where_short text.now Answer.Posted)) Answer.Gone }
+{
+    if !contexts::is_live(entries, c) {
+        return Answer::Gone;
+    }
+    on_channel(
+        entries,
+        c,
+        k,
+        Answer::PortClosed,
+        where_short(text, Answer::Posted),
+    )
+}
+
+/// The answer to a disconnect.
+pub fn disconnect(entries: &[Entry], c: ContextNo, k: ChannelNo) -> Answer
+    ensures { result ≡ cond (is_live (reverse entries.now) c) (at_end (end_in (channel (reverse entries.now) k.0) c) (is_closed (reverse entries.now) k.0) Answer.NoEffect Answer.Done) Answer.Gone }
+{
+    if !contexts::is_live(entries, c) {
+        return Answer::Gone;
+    }
+    on_channel(entries, c, k, Answer::NoEffect, Answer::Done)
+}
+
+/// The answer to a take.
+pub fn take(entries: &[Entry], c: ContextNo) -> Answer
+    ensures { result ≡ cond (is_live (reverse entries.now) c) (told_or_empty (first (pending (reverse entries.now) c))) Answer.Gone }
+{
+    if !contexts::is_live(entries, c) {
+        return Answer::Gone;
+    }
+    match events::first_pending(entries, c) {
+        Some(event) => Answer::Event(event),
+        None => Answer::Empty,
+    }
+}
+
+/// The answer on a channel: to one that is no end of it, where it is closed, and where it is open.
+fn on_channel(
+    entries: &[Entry],
+    c: ContextNo,
+    k: ChannelNo,
+    on_closed: Answer,
+    on_open: Answer,
+) -> Answer
+    ensures { result ≡ at_end (end_in (channel (reverse entries.now) k.0) c) (is_closed (reverse entries.now) k.0) on_closed on_open }
+{
+    if channels::end_of(entries, k, c) == End::Neither {
+        Answer::NoPort
+    } else if closing::is_closed(entries, k) {
+        on_closed
+    } else {
+        on_open
+    }
+}
+
+/// That answer, unless the text is too long.
+fn where_short(text: &JsonText, answer: Answer) -> Answer
+    ensures { result ≡ where_short text.now answer }
+{
+    if text.len() > LONGEST {
+        Answer::TooLong
+    } else {
+        answer
+    }
+}

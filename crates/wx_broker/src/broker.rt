@@ -1,0 +1,234 @@
+ghost use Rattle.std.specs.Prelude.{◌≡◌, ◌+◌, ◌<◌, ◌≤◌, IsOk, reverse, [], OnErr, IfOk, IfErr};
+ghost use Rattle.wx_machine.specs.Contexts.{contexts};
+ghost use Rattle.wx_machine.specs.Answers.{answer_of, IsLegal};
+ghost use Rattle.wx_broker.specs.Carried.{is_event};
+ghost use Rattle.wx_broker.specs.Steps.{Appends, Stays};
+
+use crate::answers;
+use crate::carried::{entered, port_name, posted};
+use std::alloc::Global;
+use std::marker::Model;
+use wx_id::{ChannelNo, ContextNo, NoMemory, Utf8Text};
+use wx_journal::Journal;
+use wx_machine::{Answer, Call, Context, Entry, JsonText, Listens, Target, Who, World};
+use wx_walks::contexts;
+
+/// The broker. It keeps the journal and no other state. Contracts see the world that it was made with, the
+/// journal's entries, and how many more have room; the journal is always legal.
+#[derive(Drop)]
+pub struct Broker {
+    world: World,
+    journal: Journal,
+}
+
+impl Model for Broker {
+    ghost use Rattle.wx_broker.specs.State.{BrokerState};
+    ghost use Rattle.wx_machine.specs.Answers.{IsLegal};
+
+    ghost Value = { BrokerState };
+
+    ghost view = { λ broker. record { world = broker.world; entries = broker.journal.entries; spare = broker.journal.spare } };
+
+    ghost invariant = { λ broker. IsLegal broker.world broker.journal.entries };
+}
+
+impl Broker {
+    /// The broker with no entry, in this world.
+    pub fn new(alloc: Global, world: World) -> Broker
+        ensures empty { result.entries ≡ [] }
+        ensures world { result.world ≡ world }
+    {
+        Broker {
+            world,
+            journal: Journal::new(alloc),
+        }
+    }
+
+    /// A context enters, and is given the next number. It comes back where memory was refused.
+    pub fn enter(&mut self, x: Context) -> Result<ContextNo, Context>
+        ensures ok { IfOk result (λ c. Appends self.old self.new (Who.Context c) (Call.Enter x) (Answer.Entered c)) }
+        ensures err { OnErr result (Stays self.old self.new) }
+        ensures returned { IfErr result (λ back. back ≡ x) }
+        ensures room { 0 < self.old.spare → IsOk result }
+        ensures spare { self.old.spare ≤ self.new.spare + 1 }
+    {
+        let c = ContextNo(contexts::count(self.journal.entries()));
+        let e = Entry {
+            who: Who::Context(c),
+            call: Call::Enter(x),
+            answer: Answer::Entered(c),
+        };
+        match self.journal.push(e) {
+            Ok(()) => Ok(c),
+            Err(e) => Err(entered(e)),
+        }
+    }
+
+    /// Context c says what it listens to.
+    pub fn listen(&mut self, c: ContextNo, l: Listens) -> Result<Answer, NoMemory>
+        requires { c.0 < contexts (reverse self.old.entries) }
+        ensures ok { IfOk result (λ a. Appends self.old self.new (Who.Context c) (Call.Listen l) a) }
+        ensures err { OnErr result (Stays self.old self.new) }
+        ensures room { 0 < self.old.spare → IsOk result }
+        ensures spare { self.old.spare ≤ self.new.spare + 1 }
+    {
+        let answer = answers::done_if_live(self.journal.entries(), c);
+        let e = Entry {
+            who: Who::Context(c),
+            call: Call::Listen(l),
+            answer,
+        };
+        match self.journal.push(e) {
+            Ok(()) => Ok(answer),
+            Err(_) => Err(NoMemory),
+        }
+    }
+
+    /// Context c leaves.
+    pub fn leave(&mut self, c: ContextNo) -> Result<Answer, NoMemory>
+        requires { c.0 < contexts (reverse self.old.entries) }
+        ensures ok { IfOk result (λ a. Appends self.old self.new (Who.Context c) Call.Leave a) }
+        ensures err { OnErr result (Stays self.old self.new) }
+        ensures room { 0 < self.old.spare → IsOk result }
+        ensures spare { self.old.spare ≤ self.new.spare + 1 }
+    {
+        let answer = answers::done_if_live(self.journal.entries(), c);
+        let e = Entry {
+            who: Who::Context(c),
+            call: Call::Leave,
+            answer,
+        };
+        match self.journal.push(e) {
+            Ok(()) => Ok(answer),
+            Err(_) => Err(NoMemory),
+        }
+    }
+
+    /// Context c opens a channel to a target (`runtime.connect`). The port name comes back where memory was
+    /// refused.
+    pub fn connect(
+        &mut self,
+        c: ContextNo,
+        target: Target,
+        name: Utf8Text,
+    ) -> Result<Answer, Utf8Text>
+        requires { c.0 < contexts (reverse self.old.entries) }
+        ensures ok { IfOk result (λ a. Appends self.old self.new (Who.Context c) (Call.Connect target name) a) }
+        ensures err { OnErr result (Stays self.old self.new) }
+        ensures returned { IfErr result (λ back. back ≡ name) }
+        ensures room { 0 < self.old.spare → IsOk result }
+        ensures spare { self.old.spare ≤ self.new.spare + 1 }
+    {
+        let answer = answers::connect(self.journal.entries(), c, target);
+        let e = Entry {
+            who: Who::Context(c),
+            call: Call::Connect(target, name),
+            answer,
+        };
+        match self.journal.push(e) {
+            Ok(()) => Ok(answer),
+            Err(e) => Err(port_name(e)),
+        }
+    }
+
+    /// Context c posts a message on channel k (`Port.postMessage`). The message comes back where memory was
+    /// refused.
+    pub fn post(&mut self, c: ContextNo, k: ChannelNo, text: JsonText) -> Result<Answer, JsonText>
+        requires { c.0 < contexts (reverse self.old.entries) }
+        ensures ok { IfOk result (λ a. Appends self.old self.new (Who.Context c) (Call.Post k text) a) }
+        ensures err { OnErr result (Stays self.old self.new) }
+        ensures returned { IfErr result (λ back. back ≡ text) }
+        ensures room { 0 < self.old.spare → IsOk result }
+        ensures spare { self.old.spare ≤ self.new.spare + 1 }
+    {
+        let answer = answers::post(self.journal.entries(), c, k, &text);
+        let e = Entry {
+            who: Who::Context(c),
+            call: Call::Post(k, text),
+            answer,
+        };
+        match self.journal.push(e) {
+            Ok(()) => Ok(answer),
+            Err(e) => Err(posted(e)),
+        }
+    }
+
+    /// Context c closes channel k (`Port.disconnect`).
+    pub fn disconnect(&mut self, c: ContextNo, k: ChannelNo) -> Result<Answer, NoMemory>
+        requires { c.0 < contexts (reverse self.old.entries) }
+        ensures ok { IfOk result (λ a. Appends self.old self.new (Who.Context c) (Call.Disconnect k) a) }
+        ensures err { OnErr result (Stays self.old self.new) }
+        ensures room { 0 < self.old.spare → IsOk result }
+        ensures spare { self.old.spare ≤ self.new.spare + 1 }
+    {
+        let answer = answers::disconnect(self.journal.entries(), c, k);
+        let e = Entry {
+            who: Who::Context(c),
+            call: Call::Disconnect(k),
+            answer,
+        };
+        match self.journal.push(e) {
+            Ok(()) => Ok(answer),
+            Err(_) => Err(NoMemory),
+        }
+    }
+
+    /// Context c takes the first event that is pending for it.
+    pub fn take(&mut self, c: ContextNo) -> Result<Answer, NoMemory>
+        requires { c.0 < contexts (reverse self.old.entries) }
+        ensures ok { IfOk result (λ a. Appends self.old self.new (Who.Context c) Call.Take a) }
+        ensures err { OnErr result (Stays self.old self.new) }
+        ensures room { 0 < self.old.spare → IsOk result }
+        ensures spare { self.old.spare ≤ self.new.spare + 1 }
+    {
+        let answer = answers::take(self.journal.entries(), c);
+        let e = Entry {
+            who: Who::Context(c),
+            call: Call::Take,
+            answer,
+        };
+        match self.journal.push(e) {
+            Ok(()) => Ok(answer),
+            Err(_) => Err(NoMemory),
+        }
+    }
+
+    /// Whether a take of context c would now be answered with an event.
+    pub fn ready(&self, c: ContextNo) -> bool
+        requires { c.0 < contexts (reverse self.now.entries) }
+        ensures { result ≡ is_event (answer_of self.now.world self.now.entries (Who.Context c) Call.Take) }
+    {
+        matches!(answers::take(self.journal.entries(), c), Answer::Event(_))
+    }
+
+    /// How many contexts entered.
+    pub fn contexts(&self) -> u64
+        ensures { result ≡ contexts (reverse self.now.entries) }
+    {
+        contexts::count(self.journal.entries())
+    }
+
+    /// The journal: each entry has the machine's answer after those before it.
+    pub fn journal(&self) -> &Journal
+        ensures entries { result.now.entries ≡ self.now.entries }
+        ensures legal { IsLegal self.now.world self.now.entries }
+    {
+        &self.journal
+    }
+
+    /// The journal; the broker ends.
+    pub fn into_journal(self) -> Journal
+        ensures entries { result.entries ≡ self.entries }
+        ensures legal { IsLegal self.world self.entries }
+    {
+        let Broker { world: _, journal } = self;
+        journal
+    }
+
+    /// The world that it was made with.
+    pub fn world(&self) -> World
+        ensures { result ≡ self.now.world }
+    {
+        self.world
+    }
+}

@@ -1,0 +1,82 @@
+-- The text of a journal. Each text is nested to the right: a word, a space, and what follows.
+use Rattle.std.specs.Prelude.{ℕ, length, List, ◌++◌, Bool, true, false, flat_map, decimal, codes}
+use Rattle.wx_id.specs.declared.events.EventKind.{EventKind}
+use Rattle.wx_id.specs.declared.events.EventKind.TheVariants.{Connected, Message, Disconnected}
+use Rattle.wx_machine.specs.declared.contexts.Context.{Context}
+use Rattle.wx_machine.specs.declared.contexts.Context.TheVariants.{Page}
+use Rattle.wx_machine.specs.declared.contexts.Target.{Target}
+use Rattle.wx_machine.specs.declared.contexts.Target.TheVariants.{Own}
+use Rattle.wx_machine.specs.declared.contexts.Listens.{Listens}
+use Rattle.wx_machine.specs.declared.entries.Who.{Who}
+use Rattle.wx_machine.specs.declared.entries.Who.TheVariants.{Context as ByContext}
+use Rattle.wx_machine.specs.declared.entries.Call.{Call}
+use Rattle.wx_machine.specs.declared.entries.Call.TheVariants.{Enter, Listen, Leave, Connect, Post, Disconnect, Take}
+use Rattle.wx_machine.specs.declared.entries.Answer.{Answer}
+use Rattle.wx_machine.specs.declared.entries.Answer.TheVariants.{Entered, Channel as OnChannel, Event as Told, Done, Gone, NoReceiver, Posted, NoPort, PortClosed, TooLong, NoEffect, Empty}
+use Rattle.wx_machine.specs.declared.entries.Entry.{Entry}
+
+infixr 6 ◌␣◌
+-- a word, one space, and what follows
+abbrev pub ◌␣◌ : List ℕ → List ℕ → List ℕ
+w ␣ more = w ++ (codes " " ++ more)
+
+-- a text, behind its length in bytes
+abbrev pub sized : List ℕ → List ℕ
+sized t = decimal (length t) ++ (codes ":" ++ t)
+
+-- a word and a number
+abbrev pub numbered : List ℕ → ℕ → List ℕ
+numbered word n = word ␣ decimal n
+
+abbrev pub who_text : Who → List ℕ
+who_text (ByContext c) = codes "c" ++ decimal c.0
+
+abbrev pub target_text : Target → List ℕ
+target_text Own = codes "own"
+
+abbrev pub context_text : Context → List ℕ
+context_text (Page ext path) = codes "page" ␣ ext ␣ sized path
+
+abbrev pub flag : Bool → List ℕ → List ℕ
+flag true letter = letter
+flag false letter = codes "-"
+
+abbrev pub listens_text : Listens → List ℕ
+listens_text l = flag l.connect (codes "c") ++ (flag l.message (codes "m") ++ (flag l.external_connect (codes "C") ++ flag l.external_message (codes "M")))
+
+abbrev pub call_text : Call → List ℕ
+call_text (Enter x) = codes "enter" ␣ context_text x
+call_text (Listen l) = codes "listen" ␣ listens_text l
+call_text Leave = codes "leave"
+call_text (Connect target name) = codes "connect" ␣ target_text target ␣ sized name
+call_text (Post k text) = codes "post" ␣ decimal k.0 ␣ sized text
+call_text (Disconnect k) = numbered (codes "disconnect") k.0
+call_text Take = codes "take"
+
+-- an event: its kind, its channel, and the entry that delivered it
+abbrev pub event_text : EventKind → ℕ → List ℕ
+event_text (Connected k) e = codes "connected" ␣ decimal k.0 ␣ decimal e
+event_text (Message k) e = codes "message" ␣ decimal k.0 ␣ decimal e
+event_text (Disconnected k) e = codes "disconnected" ␣ decimal k.0 ␣ decimal e
+
+abbrev pub answer_text : Answer → List ℕ
+answer_text (Entered c) = numbered (codes "context") c.0
+answer_text (OnChannel k) = numbered (codes "channel") k.0
+answer_text (Told event) = event_text event.kind event.entry.0
+answer_text Done = codes "done"
+answer_text Gone = codes "gone"
+answer_text NoReceiver = codes "no_receiver"
+answer_text Posted = codes "posted"
+answer_text NoPort = codes "no_port"
+answer_text PortClosed = codes "port_closed"
+answer_text TooLong = codes "too_long"
+answer_text NoEffect = codes "no_effect"
+answer_text Empty = codes "empty"
+
+-- an entry's line: who, the call, and the answer behind an arrow
+abbrev pub entry_text : Entry → List ℕ
+entry_text e = who_text e.who ␣ call_text e.call ++ (codes " -> " ++ (answer_text e.answer ++ codes "\n"))
+
+-- the text of a journal, oldest entry first
+abbrev pub journal_text : List Entry → List ℕ
+journal_text journal = codes "wx journal 1 chrome\n" ++ flat_map entry_text journal

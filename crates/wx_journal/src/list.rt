@@ -1,0 +1,128 @@
+ghost use Rattle.std.specs.Prelude.{◌≡◌, ◌+◌, ◌<◌, ◌≤◌, [], ◌∷◌, ◌++◌, length, IfOk, IfErr, OnOk, OnErr, IsOk, slice_get, option_copied, ◌==◌};
+ghost use Rattle.std.specs.Option.{option_and_then};
+ghost use Rattle.wx_journal.specs.Journal.{text_in};
+ghost use Rattle.wx_journal.specs.Text.{journal_text};
+
+use crate::print::print;
+use std::alloc::Global;
+use std::marker::Model;
+use wx_id::{EntryNo, NoMemory};
+use wx_machine::{Call, Entry, JsonText};
+
+/// A list of entries. An entry's number is its place, from 0. Contracts see the entries, oldest first, and
+/// how many more have room.
+#[derive(Drop)]
+pub struct Journal {
+    entries: Vec<Entry>,
+}
+
+impl Model for Journal {
+    ghost use Rattle.std.specs.Prelude.{◌-◌, vec_capacity, vec_len};
+    ghost use Rattle.wx_journal.specs.Journal.{JournalState};
+
+    ghost Value = { JournalState };
+
+    ghost view = { λ journal. record { entries = journal.entries.items; spare = vec_capacity journal.entries - vec_len journal.entries } };
+}
+
+/// The JSON text that a call carries.
+fn text_of_call(call: &Call) -> Option<&JsonText>
+    ensures { option_copied result ≡ text_in call.now }
+{
+    match call {
+        Call::Post(_, text) => Some(text),
+        _ => None,
+    }
+}
+
+impl Journal {
+    /// The journal without entries.
+    pub fn new(alloc: Global) -> Journal
+        ensures { result.entries ≡ [] }
+    {
+        Journal {
+            entries: Vec::new(alloc),
+        }
+    }
+
+    /// Appends an entry; it comes back where memory was refused.
+    pub fn push(&mut self, e: Entry) -> Result<(), Entry>
+        ensures ok { OnOk result (self.new.entries ≡ self.old.entries ++ e ∷ []) }
+        ensures err { OnErr result (self.new.entries ≡ self.old.entries) }
+        ensures returned { IfErr result (λ back. back ≡ e) }
+        ensures room { 0 < self.old.spare → IsOk result }
+        ensures spare { self.old.spare ≤ self.new.spare + 1 }
+    {
+        match self.entries.push(e) {
+            Ok(()) => Ok(()),
+            Err(failed) => Err(failed.value),
+        }
+    }
+
+    /// Makes room for so many more entries.
+    pub fn reserve(&mut self, n: u64) -> Result<(), NoMemory>
+        ensures same { self.new.entries ≡ self.old.entries }
+        ensures ok { OnOk result (n ≤ self.new.spare) }
+        ensures kept { self.old.spare ≤ self.new.spare }
+    {
+        match self.entries.reserve(n as usize) {
+            Ok(()) => Ok(()),
+            Err(_) => Err(NoMemory),
+        }
+    }
+
+    /// How many more entries have room.
+    pub fn spare(&self) -> u64
+        ensures { result ≡ self.now.spare }
+    {
+        (self.entries.capacity() - self.entries.len()) as u64
+    }
+
+    /// How many entries there are.
+    pub fn len(&self) -> u64
+        ensures { result ≡ length self.now.entries }
+    {
+        self.entries.len() as u64
+    }
+
+    /// Whether there is none.
+    pub fn is_empty(&self) -> bool
+        ensures { result ≡ (length self.now.entries == 0) }
+    {
+        self.entries.is_empty()
+    }
+
+    /// The entry with this number.
+    pub fn entry(&self, e: EntryNo) -> Option<&Entry>
+        ensures { option_copied result ≡ slice_get self.now.entries e.0 }
+    {
+        self.entries.get(e.0 as usize)
+    }
+
+    /// The JSON text that the entry's call carries, where there is such an entry and it carries one.
+    pub fn text_of(&self, e: EntryNo) -> Option<&JsonText>
+        ensures { option_copied result ≡ option_and_then (λ entry. text_in entry.call) (slice_get self.now.entries e.0) }
+    {
+        match self.entries.get(e.0 as usize) {
+            Some(entry) => text_of_call(&entry.call),
+            None => None,
+        }
+    }
+
+    /// The entries, oldest first.
+    pub fn entries(&self) -> &[Entry]
+        ensures { result.now ≡ self.now.entries }
+    {
+        self.entries.as_slice()
+    }
+
+    /// The text of the journal: a head line, and a line for each entry.
+    pub fn print(&self, alloc: Global) -> Result<Vec<u8>, NoMemory>
+        ensures { IfOk result (λ text. text.items ≡ journal_text self.now.entries) }
+    {
+        match print(alloc, &self.entries) {
+            Ok(text) => Ok(text),
+            Err(_) => Err(NoMemory),
+        }
+    }
+}

@@ -1,0 +1,217 @@
+ghost use Rattle.std.specs.Prelude.{◌≡◌, ◌++◌, OnOk, IfOk, decimal, codes};
+ghost use Rattle.wx_journal.specs.Text.{◌␣◌, event_text, sized, numbered, who_text, answer_text, listens_text, target_text, context_text, flag, call_text, entry_text, journal_text};
+
+use std::alloc::{AllocError, Global};
+use wx_id::{Event, EventKind};
+use wx_machine::{Answer, Call, Context, Entry, Listens, Target, Who};
+
+fn put(out: &mut Vec<u8>, bytes: &[u8]) -> Result<(), AllocError>
+    ensures { OnOk result (out.new.items ≡ out.old.items ++ bytes.now) }
+{
+    out.extend_from_slice(bytes)
+}
+
+fn put_number(alloc: Global, out: &mut Vec<u8>, n: u64) -> Result<(), AllocError>
+    ensures { OnOk result (out.new.items ≡ out.old.items ++ decimal n) }
+{
+    let text = format!(in alloc; "{n}")?;
+    put(out, text.as_bytes())
+}
+
+/// A word and a number.
+fn put_numbered(alloc: Global, out: &mut Vec<u8>, word: &[u8], n: u64) -> Result<(), AllocError>
+    ensures { OnOk result (out.new.items ≡ out.old.items ++ numbered word.now n) }
+{
+    put(out, word)?;
+    put(out, b" ")?;
+    put_number(alloc, out, n)
+}
+
+/// A text behind its length.
+fn put_sized(alloc: Global, out: &mut Vec<u8>, text: &[u8]) -> Result<(), AllocError>
+    ensures { OnOk result (out.new.items ≡ out.old.items ++ sized text.now) }
+{
+    put_number(alloc, out, text.len() as u64)?;
+    put(out, b":")?;
+    put(out, text)
+}
+
+/// A space, and a text behind its length.
+fn put_spaced(alloc: Global, out: &mut Vec<u8>, text: &[u8]) -> Result<(), AllocError>
+    ensures { OnOk result (out.new.items ≡ out.old.items ++ (codes " " ++ sized text.now)) }
+{
+    put(out, b" ")?;
+    put_sized(alloc, out, text)
+}
+
+/// A space and a number.
+fn put_next(alloc: Global, out: &mut Vec<u8>, n: u64) -> Result<(), AllocError>
+    ensures { OnOk result (out.new.items ≡ out.old.items ++ (codes " " ++ decimal n)) }
+{
+    put(out, b" ")?;
+    put_number(alloc, out, n)
+}
+
+fn put_who(alloc: Global, out: &mut Vec<u8>, who: Who) -> Result<(), AllocError>
+    ensures { OnOk result (out.new.items ≡ out.old.items ++ who_text who) }
+{
+    match who {
+        Who::Context(c) => {
+            put(out, b"c")?;
+            put_number(alloc, out, c.0)
+        }
+    }
+}
+
+/// A word and two numbers.
+fn put_numbers(
+    alloc: Global,
+    out: &mut Vec<u8>,
+    word: &[u8],
+    n: u64,
+    e: u64,
+) -> Result<(), AllocError>
+    ensures { OnOk result (out.new.items ≡ out.old.items ++ (word.now ␣ decimal n ␣ decimal e)) }
+{
+    put_numbered(alloc, out, word, n)?;
+    put_next(alloc, out, e)
+}
+
+fn put_event(alloc: Global, out: &mut Vec<u8>, event: Event) -> Result<(), AllocError>
+    ensures { OnOk result (out.new.items ≡ out.old.items ++ event_text event.kind event.entry.0) }
+{
+    match event.kind {
+        EventKind::Connected(k) => put_numbers(alloc, out, b"connected", k.0, event.entry.0),
+        EventKind::Message(k) => put_numbers(alloc, out, b"message", k.0, event.entry.0),
+        EventKind::Disconnected(k) => put_numbers(alloc, out, b"disconnected", k.0, event.entry.0),
+    }
+}
+
+fn put_answer(alloc: Global, out: &mut Vec<u8>, answer: Answer) -> Result<(), AllocError>
+    ensures { OnOk result (out.new.items ≡ out.old.items ++ answer_text answer) }
+{
+    match answer {
+        Answer::Entered(c) => put_numbered(alloc, out, b"context", c.0),
+        Answer::Channel(k) => put_numbered(alloc, out, b"channel", k.0),
+        Answer::Event(event) => put_event(alloc, out, event),
+        Answer::Done => put(out, b"done"),
+        Answer::Gone => put(out, b"gone"),
+        Answer::NoReceiver => put(out, b"no_receiver"),
+        Answer::Posted => put(out, b"posted"),
+        Answer::NoPort => put(out, b"no_port"),
+        Answer::PortClosed => put(out, b"port_closed"),
+        Answer::TooLong => put(out, b"too_long"),
+        Answer::NoEffect => put(out, b"no_effect"),
+        Answer::Empty => put(out, b"empty"),
+    }
+}
+
+fn put_flag(out: &mut Vec<u8>, on: bool, letter: &[u8]) -> Result<(), AllocError>
+    ensures { OnOk result (out.new.items ≡ out.old.items ++ flag on letter.now) }
+{
+    put(out, if on { letter } else { b"-" })
+}
+
+fn put_listens(out: &mut Vec<u8>, l: Listens) -> Result<(), AllocError>
+    ensures { OnOk result (out.new.items ≡ out.old.items ++ listens_text l) }
+{
+    put_flag(out, l.connect, b"c")?;
+    put_flag(out, l.message, b"m")?;
+    put_flag(out, l.external_connect, b"C")?;
+    put_flag(out, l.external_message, b"M")
+}
+
+fn put_target(out: &mut Vec<u8>, target: Target) -> Result<(), AllocError>
+    ensures { OnOk result (out.new.items ≡ out.old.items ++ target_text target) }
+{
+    match target {
+        Target::Own => put(out, b"own"),
+    }
+}
+
+fn put_context(alloc: Global, out: &mut Vec<u8>, x: &Context) -> Result<(), AllocError>
+    ensures { OnOk result (out.new.items ≡ out.old.items ++ context_text x.now) }
+{
+    match x {
+        Context::Page { ext, path } => {
+            put(out, b"page ")?;
+            put(out, ext.text().as_bytes())?;
+            put_spaced(alloc, out, path.text().as_bytes())
+        }
+    }
+}
+
+/// A word, a target and a text.
+fn put_to_target(
+    alloc: Global,
+    out: &mut Vec<u8>,
+    word: &[u8],
+    target: Target,
+    text: &[u8],
+) -> Result<(), AllocError>
+    ensures { OnOk result (out.new.items ≡ out.old.items ++ (word.now ␣ target_text target ␣ sized text.now)) }
+{
+    put(out, word)?;
+    put(out, b" ")?;
+    put_target(out, target)?;
+    put_spaced(alloc, out, text)
+}
+
+/// A word, a number and a text.
+fn put_on(
+    alloc: Global,
+    out: &mut Vec<u8>,
+    word: &[u8],
+    n: u64,
+    text: &[u8],
+) -> Result<(), AllocError>
+    ensures { OnOk result (out.new.items ≡ out.old.items ++ (word.now ␣ decimal n ␣ sized text.now)) }
+{
+    put_numbered(alloc, out, word, n)?;
+    put_spaced(alloc, out, text)
+}
+
+fn put_call(alloc: Global, out: &mut Vec<u8>, call: &Call) -> Result<(), AllocError>
+    ensures { OnOk result (out.new.items ≡ out.old.items ++ call_text call.now) }
+{
+    match call {
+        Call::Enter(x) => {
+            put(out, b"enter ")?;
+            put_context(alloc, out, x)
+        }
+        Call::Listen(l) => {
+            put(out, b"listen ")?;
+            put_listens(out, *l)
+        }
+        Call::Leave => put(out, b"leave"),
+        Call::Connect(target, name) => {
+            put_to_target(alloc, out, b"connect", *target, name.as_str().as_bytes())
+        }
+        Call::Post(k, text) => put_on(alloc, out, b"post", k.0, text.bytes()),
+        Call::Disconnect(k) => put_numbered(alloc, out, b"disconnect", k.0),
+        Call::Take => put(out, b"take"),
+    }
+}
+
+fn put_entry(alloc: Global, out: &mut Vec<u8>, e: &Entry) -> Result<(), AllocError>
+    ensures { OnOk result (out.new.items ≡ out.old.items ++ entry_text e.now) }
+{
+    put_who(alloc, out, e.who)?;
+    put(out, b" ")?;
+    put_call(alloc, out, &e.call)?;
+    put(out, b" -> ")?;
+    put_answer(alloc, out, e.answer)?;
+    put(out, b"\n")
+}
+
+/// The text of these entries, oldest first.
+pub fn print(alloc: Global, entries: &[Entry]) -> Result<Vec<u8>, AllocError>
+    ensures { IfOk result (λ text. text.items ≡ journal_text entries.now) }
+{
+    let mut out = Vec::new(alloc);
+    put(&mut out, b"wx journal 1 chrome\n")?;
+    for e in entries {
+        put_entry(alloc, &mut out, e)?;
+    }
+    Ok(out)
+}

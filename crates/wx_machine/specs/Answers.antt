@@ -1,0 +1,82 @@
+-- What each call is answered, and which journals are legal.
+use Rattle.std.specs.Prelude.{◌≡◌, ℕ, length, List, [], ◌∷◌, ◌++◌, Bool, true, false, ◌&&◌, cond, Option, Some, None, IsTrue, reverse, nat_lt, ◌==◌}
+use Rattle.wx_id.specs.declared.numbers.ContextNo.{ContextNo}
+use Rattle.wx_id.specs.declared.events.Event.{Event}
+use Rattle.wx_id.specs.declared.events.End.{End}
+use Rattle.wx_id.specs.declared.events.End.TheVariants.{Neither}
+use Rattle.wx_machine.specs.declared.world.World.{World}
+use Rattle.wx_machine.specs.declared.entries.Who.{Who}
+use Rattle.wx_machine.specs.declared.entries.Who.TheVariants.{Context as ByContext}
+use Rattle.wx_machine.specs.declared.entries.Call.{Call}
+use Rattle.wx_machine.specs.declared.entries.Call.TheVariants.{Enter, Listen, Leave, Connect, Post, Disconnect, Take}
+use Rattle.wx_machine.specs.declared.entries.Answer.{Answer}
+use Rattle.wx_machine.specs.declared.entries.Answer.TheVariants.{Entered, Channel as OnChannel, Event as Told, Done, Gone, NoReceiver, Posted, NoPort, PortClosed, TooLong, NoEffect, Empty}
+use Rattle.wx_machine.specs.declared.entries.Entry.{Entry}
+use Rattle.wx_machine.specs.Contexts.{contexts, is_live, receivers_of, Connection}
+use Rattle.wx_machine.specs.Channels.{channels, channel, end_in, is_closed}
+use Rattle.wx_machine.specs.Events.{pending, first}
+use Rattle.wx_machine.specs.Each.{EachAfter}
+
+-- the longest text that is passed on, in bytes
+abbrev pub longest : ℕ
+longest = 67108864
+
+-- with no receiver that is the answer
+abbrev pub where_heard : List ContextNo → Answer → Answer
+where_heard [] a = NoReceiver
+where_heard (c ∷ cs) a = a
+
+-- a long text is refused
+abbrev pub where_short : List ℕ → Answer → Answer
+where_short text a = cond (nat_lt longest (length text)) TooLong a
+
+-- the answer on a channel: to one that is no end of it, where it is closed, and where it is open
+abbrev pub at_end : End → Bool → Answer → Answer → Answer
+at_end Neither closed on_closed on_open = NoPort
+at_end _ closed on_closed on_open = cond closed on_closed on_open
+
+abbrev pub told_or_empty : Option Event → Answer
+told_or_empty None = Empty
+told_or_empty (Some event) = Told event
+
+-- what a live context is answered
+abbrev pub answer_to : World → List Entry → ContextNo → Call → Answer
+answer_to world past c (Enter x) = Entered (record { 0 = contexts past })
+answer_to world past c (Listen l) = Done
+answer_to world past c Leave = Done
+answer_to world past c (Connect target name) = where_heard (receivers_of past c target Connection) (OnChannel (record { 0 = length (channels past) }))
+answer_to world past c (Post k text) = at_end (end_in (channel past k.0) c) (is_closed past k.0) PortClosed (where_short text Posted)
+answer_to world past c (Disconnect k) = at_end (end_in (channel past k.0) c) (is_closed past k.0) NoEffect Done
+answer_to world past c Take = told_or_empty (first (pending past c))
+
+-- who enters need not live; every other call of one who does not is answered `Gone`
+abbrev pub if_live : Call → Bool → Answer → Answer
+if_live (Enter x) live a = a
+if_live _ live a = cond live a Gone
+
+-- the answer to a call after this past
+abbrev pub answer_after : World → List Entry → Who → Call → Answer
+answer_after world past (ByContext c) call = if_live call (is_live past c) (answer_to world past c call)
+
+-- who may make a call: a context whose number was given out, and for an enter the next number
+abbrev pub may_make : List Entry → Who → Call → Bool
+may_make past (ByContext c) (Enter x) = c.0 == contexts past
+may_make past (ByContext c) _ = nat_lt c.0 (contexts past)
+
+-- An entry was made by one who may make it, and has the machine's answer after the entries before it.
+pub record FollowsMachine (world : World) (past : List Entry) (e : Entry) : Type 0 where
+  pub may : IsTrue (may_make past e.who e.call)
+  pub answered : e.answer ≡ answer_after world past e.who e.call
+
+-- the machine's answer to a call after a journal, whose oldest entry stands first
+abbrev pub answer_of : World → List Entry → Who → Call → Answer
+answer_of world journal who call = answer_after world (reverse journal) who call
+
+-- a journal in which each entry follows the machine
+abbrev pub IsLegal : World → List Entry → Type 0
+IsLegal world journal = EachAfter (FollowsMachine world) (reverse journal)
+
+-- the past that calls make, one after another
+abbrev pub made_of : World → List (Who × Call) → List Entry → List Entry
+made_of world [] past = past
+made_of world (c ∷ calls) past = made_of world calls (record { who = c.0; call = c.1; answer = answer_after world past c.0 c.1 } ∷ past)

@@ -1,0 +1,125 @@
+-- What each entry delivers, and which events are pending for a context.
+use Rattle.std.specs.Prelude.{ℕ, length, List, [], ◌∷◌, ◌++◌, map, Bool, true, false, not, ◌&&◌, ◌||◌, cond, Option, Some, None, ◌==◌, nat_lt, filter, flat_map}
+use Rattle.std.specs.List.{list_any, range_with_len}
+use Rattle.wx_id.specs.declared.numbers.ContextNo.{ContextNo}
+use Rattle.wx_id.specs.declared.events.Event.{Event}
+use Rattle.wx_id.specs.declared.events.EventKind.{EventKind}
+use Rattle.wx_id.specs.declared.events.EventKind.TheVariants.{Connected, Message, Disconnected}
+use Rattle.wx_id.specs.declared.events.End.{End}
+use Rattle.wx_id.specs.declared.events.End.TheVariants.{Opener, Receiver}
+use Rattle.wx_machine.specs.declared.entries.Who.{Who}
+use Rattle.wx_machine.specs.declared.entries.Who.TheVariants.{Context as ByContext}
+use Rattle.wx_machine.specs.declared.entries.Call.{Call}
+use Rattle.wx_machine.specs.declared.entries.Call.TheVariants.{Post, Disconnect, Leave, Take}
+use Rattle.wx_machine.specs.declared.entries.Answer.{Answer}
+use Rattle.wx_machine.specs.declared.entries.Answer.TheVariants.{Event as Told, Posted, Done}
+use Rattle.wx_machine.specs.declared.entries.Entry.{Entry}
+use Rattle.wx_machine.specs.Contexts.{is_by, is_live}
+use Rattle.wx_machine.specs.Channels.{Ends, opens, channels, channel, end_in, closes}
+
+abbrev pub is_receiving : End → Bool
+is_receiving Receiver = true
+is_receiving _ = false
+
+-- that kind, where the test holds
+abbrev pub on : Bool → EventKind → List EventKind
+on b kind = cond b (kind ∷ []) []
+
+-- a channel that an entry opens is told to each receiver
+abbrev pub connected : ℕ → Option Ends → ContextNo → List EventKind
+connected k ends c = on (is_receiving (end_in ends c)) (Connected (record { 0 = k }))
+
+-- the side of a channel on which the caller stands
+abbrev pub side_of : Option Ends → Who → End
+side_of ends (ByContext c) = end_in ends c
+
+-- what one side does goes to the other: to each receiver that lives, or to the opener
+abbrev pub goes : End → End → Bool → Bool
+goes Opener Receiver live = live
+goes Receiver Opener live = true
+goes _ _ live = false
+
+abbrev pub goes_to : List Entry → Option Ends → Who → ContextNo → Bool
+goes_to past ends who c = goes (side_of ends who) (end_in ends c) (is_live past c)
+
+-- a message that was posted goes to the other side
+abbrev pub message : List Entry → Who → Call → Answer → ContextNo → List EventKind
+message past who (Post k text) Posted c = on (goes_to past (channel past k.0) who c) (Message k)
+message past who _ _ c = []
+
+-- the end of channel k is told to the other side
+abbrev pub disconnected_on : List Entry → Entry → ContextNo → ℕ → List EventKind
+disconnected_on past e c k = on (closes past e k && goes_to past (channel past k) e.who c) (Disconnected (record { 0 = k }))
+
+-- a disconnect ends one channel, and a leave all those of which it is the last live end on its side
+abbrev pub disconnected : List Entry → Entry → Call → ContextNo → List EventKind
+disconnected past e (Disconnect k) c = disconnected_on past e c k.0
+disconnected past e Leave c = flat_map (disconnected_on past e c) (range_with_len 0 (length (channels past)))
+disconnected past e _ c = []
+
+-- what entry e, with these before it, tells context c of channels
+abbrev pub of_channels : List Entry → Entry → ContextNo → List EventKind
+of_channels past e c = connected (length (channels past)) (opens past e) c ++ message past e.who e.call e.answer c ++ disconnected past e e.call c
+
+-- all that it tells
+abbrev pub tells : List Entry → Entry → ContextNo → List EventKind
+tells past e c = of_channels past e c
+
+-- the event of that kind that entry n delivers
+abbrev pub marked : ℕ → EventKind → Event
+marked n kind = record { entry = record { 0 = n }; kind = kind }
+
+-- what it delivers
+abbrev pub delivered : List Entry → Entry → ContextNo → List Event
+delivered past e c = map (marked (length past)) (tells past e c)
+
+-- all that was delivered to context c
+abbrev pub queued : List Entry → ContextNo → List Event
+queued [] c = []
+queued (e ∷ past) c = queued past c ++ delivered past e c
+
+abbrev pub event_in : Call → Answer → Bool → List Event
+event_in Take (Told event) true = event ∷ []
+event_in _ _ _ = []
+
+-- the events that context c took
+abbrev pub taken : List Entry → ContextNo → List Event
+taken [] c = []
+taken (e ∷ past) c = taken past c ++ event_in e.call e.answer (is_by e.who c)
+
+abbrev pub same_kind : EventKind → EventKind → Bool
+same_kind (Connected k) (Connected j) = k.0 == j.0
+same_kind (Message k) (Message j) = k.0 == j.0
+same_kind (Disconnected k) (Disconnected j) = k.0 == j.0
+same_kind _ _ = false
+
+abbrev pub same_event : Event → Event → Bool
+same_event a b = (a.entry.0 == b.entry.0) && same_kind a.kind b.kind
+
+-- the event is of channel k
+abbrev pub is_of : ℕ → EventKind → Bool
+is_of k (Connected j) = j.0 == k
+is_of k (Message j) = j.0 == k
+is_of k (Disconnected j) = j.0 == k
+
+abbrev pub drops_by : Call → Answer → EventKind → Bool
+drops_by (Disconnect k) Done kind = is_of k.0 kind
+drops_by _ _ kind = false
+
+-- context c itself disconnected the event's channel after the event
+abbrev pub is_dropped : List Entry → ContextNo → Event → Bool
+is_dropped [] c event = false
+is_dropped (e ∷ past) c event =
+    is_dropped past c event || (is_by e.who c && drops_by e.call e.answer event.kind && nat_lt event.entry.0 (length past))
+
+-- the event was not taken, and its channel not disconnected
+abbrev pub is_waiting : List Entry → ContextNo → Event → Bool
+is_waiting past c event = not (list_any (λ t. same_event t event) (taken past c)) && not (is_dropped past c event)
+
+-- what is pending for context c, in the order in which it was delivered
+abbrev pub pending : List Entry → ContextNo → List Event
+pending past c = filter (is_waiting past c) (queued past c)
+
+abbrev pub first : List Event → Option Event
+first [] = None
+first (event ∷ events) = Some event

@@ -1,0 +1,114 @@
+-- Worked examples of the machine: calls, and what they are answered one after another.
+use Rattle.std.specs.Prelude.{◌≡◌, ℕ, List, [], ◌∷◌, ◌++◌, map, true, false, reverse, codes, Some}
+use Rattle.wx_id.specs.declared.numbers.ChannelNo.{ChannelNo}
+use Rattle.wx_id.specs.declared.events.EventKind.{EventKind}
+use Rattle.wx_id.specs.declared.events.EventKind.TheVariants.{Connected, Message, Disconnected}
+use Rattle.wx_machine.specs.declared.contexts.Context.TheVariants.{Page}
+use Rattle.wx_machine.specs.declared.contexts.Target.TheVariants.{Own}
+use Rattle.wx_machine.specs.declared.world.World.{World}
+use Rattle.wx_machine.specs.declared.entries.Who.{Who}
+use Rattle.wx_machine.specs.declared.entries.Who.TheVariants.{Context as ByContext}
+use Rattle.wx_machine.specs.declared.entries.Call.{Call}
+use Rattle.wx_machine.specs.declared.entries.Call.TheVariants.{Enter, Listen, Leave, Connect, Post, Disconnect, Take}
+use Rattle.wx_machine.specs.declared.entries.Answer.{Answer}
+use Rattle.wx_machine.specs.declared.entries.Answer.TheVariants.{Entered, Channel as OnChannel, Event as Told, Done, NoReceiver, Posted, PortClosed, NoEffect, Empty}
+use Rattle.wx_machine.specs.declared.entries.Entry.{Entry}
+use Rattle.wx_machine.specs.Channels.{closed_at}
+use Rattle.wx_machine.specs.Answers.{made_of}
+
+abbrev pub by : ℕ → Call → Who × Call
+by n call = (ByContext (record { 0 = n }), call)
+
+abbrev pub id_a : List ℕ
+id_a = codes "aaaaaaaaaaaaaaaaaaaaaaaaaaaaaaaa"
+
+abbrev pub a_page : List ℕ → Call
+a_page path = Enter (Page id_a path)
+
+abbrev pub listen_connect : Call
+listen_connect = Listen (record { connect = true; message = false; external_connect = false; external_message = false })
+
+abbrev pub channel : ℕ → ChannelNo
+channel n = record { 0 = n }
+
+abbrev pub connect : Call
+connect = Connect Own []
+
+abbrev pub post : ℕ → List ℕ → Call
+post k text = Post (channel k) text
+
+abbrev pub told : ℕ → EventKind → Answer
+told n kind = Told (record { entry = record { 0 = n }; kind = kind })
+
+abbrev pub entered : ℕ → Answer
+entered n = Entered (record { 0 = n })
+
+abbrev pub answers_to : World → List (Who × Call) → List Answer
+answers_to world calls = map (λ (e : Entry). e.answer) (reverse (made_of world calls []))
+
+-- two pages, one connection, one posted number
+abbrev pub one_connection_calls : List (Who × Call)
+one_connection_calls =
+    by 0 (a_page (codes "/q")) ∷ by 1 (a_page (codes "/p")) ∷ by 1 listen_connect ∷ by 0 connect ∷ by 1 Take
+    ∷ by 0 (post 0 (codes "1")) ∷ by 1 Take ∷ by 0 (Disconnect (channel 0)) ∷ by 1 Take ∷ by 0 Leave ∷ by 1 Leave ∷ []
+
+abbrev pub OneConnectionOnePost : Type 0
+OneConnectionOnePost =
+    (world : World) → answers_to world one_connection_calls
+    ≡ entered 0 ∷ entered 1 ∷ Done ∷ OnChannel (channel 0) ∷ told 3 (Connected (channel 0))
+    ∷ Posted ∷ told 5 (Message (channel 0)) ∷ Done ∷ told 7 (Disconnected (channel 0)) ∷ Done ∷ Done ∷ []
+
+-- a page that listens does not reach itself
+abbrev pub ConnectReachesNobody : Type 0
+ConnectReachesNobody =
+    (world : World) → answers_to world (by 0 (a_page (codes "/p")) ∷ by 0 listen_connect ∷ by 0 connect ∷ by 0 Leave ∷ [])
+    ≡ entered 0 ∷ Done ∷ NoReceiver ∷ Done ∷ []
+
+-- a page that connects, and two that listen and take the connection
+abbrev pub two_listeners : List (Who × Call)
+two_listeners =
+    by 0 (a_page (codes "/s")) ∷ by 1 (a_page (codes "/p")) ∷ by 1 listen_connect ∷ by 2 (a_page (codes "/q")) ∷ by 2 listen_connect
+    ∷ by 0 connect ∷ by 1 Take ∷ by 2 Take ∷ []
+
+abbrev pub two_listeners_answers : List Answer
+two_listeners_answers =
+    entered 0 ∷ entered 1 ∷ Done ∷ entered 2 ∷ Done
+    ∷ OnChannel (channel 0) ∷ told 5 (Connected (channel 0)) ∷ told 5 (Connected (channel 0)) ∷ []
+
+-- a receiver's disconnect closes the channel to the other receiver too, and the opener alone is told
+abbrev pub ReceiverDisconnects : Type 0
+ReceiverDisconnects =
+    (world : World) → answers_to world
+    (two_listeners
+    ++ (by 1 (Disconnect (channel 0)) ∷ by 2 (post 0 (codes "7")) ∷ by 0 Take ∷ by 1 (Disconnect (channel 0)) ∷ by 2 Take ∷ by 0 Leave ∷ by 1 Leave ∷ by 2 Leave ∷ []))
+    ≡ two_listeners_answers ++ (Done ∷ PortClosed ∷ told 8 (Disconnected (channel 0)) ∷ NoEffect ∷ Empty ∷ Done ∷ Done ∷ Done ∷ [])
+
+abbrev pub receiver_leaves_calls : List (Who × Call)
+receiver_leaves_calls = two_listeners ++ (by 1 Leave ∷ by 2 (post 0 (codes "7")) ∷ by 0 Take ∷ by 2 Leave ∷ by 0 Leave ∷ [])
+
+-- a receiver's leave closes the channel only where no receiver is left
+abbrev pub ReceiverLeaves : Type 0
+ReceiverLeaves =
+    (world : World)
+    → (answers_to world receiver_leaves_calls ≡ two_listeners_answers ++ (Done ∷ Posted ∷ told 9 (Message (channel 0)) ∷ Done ∷ Done ∷ []))
+    × (closed_at (made_of world receiver_leaves_calls []) 0 ≡ Some 11)
+
+-- what was posted before the opener left stays to be taken
+abbrev pub PostsOutliveTheOpener : Type 0
+PostsOutliveTheOpener =
+    (world : World) → answers_to world
+    (by 0 (a_page (codes "/q")) ∷ by 1 (a_page (codes "/p")) ∷ by 1 listen_connect ∷ by 0 connect ∷ by 1 listen_connect
+    ∷ by 0 (post 0 (codes "1")) ∷ by 1 listen_connect ∷ by 0 (post 0 (codes "2")) ∷ by 1 listen_connect ∷ by 0 (post 0 (codes "3")) ∷ by 1 listen_connect
+    ∷ by 0 Leave ∷ by 1 listen_connect ∷ by 1 Take ∷ by 1 Take ∷ by 1 Take ∷ by 1 Take ∷ by 1 Take ∷ by 1 Take ∷ by 1 Leave ∷ [])
+    ≡ entered 0 ∷ entered 1 ∷ Done ∷ OnChannel (channel 0) ∷ Done ∷ Posted ∷ Done ∷ Posted ∷ Done ∷ Posted ∷ Done ∷ Done ∷ Done
+    ∷ told 3 (Connected (channel 0)) ∷ told 5 (Message (channel 0)) ∷ told 7 (Message (channel 0)) ∷ told 9 (Message (channel 0)) ∷ told 11 (Disconnected (channel 0)) ∷ Empty ∷ Done ∷ []
+
+-- one who disconnects a channel takes nothing more of it
+abbrev pub DisconnectDropsWhatWaits : Type 0
+DisconnectDropsWhatWaits =
+    (world : World) → answers_to world
+    (by 0 (a_page (codes "/q")) ∷ by 1 (a_page (codes "/p")) ∷ by 1 listen_connect ∷ by 0 connect ∷ by 1 listen_connect
+    ∷ by 0 (post 0 (codes "1")) ∷ by 1 listen_connect ∷ by 0 (post 0 (codes "2")) ∷ by 1 Take ∷ by 0 (post 0 (codes "3"))
+    ∷ by 1 (Disconnect (channel 0)) ∷ by 0 Leave ∷ by 1 Take ∷ by 1 Leave ∷ [])
+    ≡ entered 0 ∷ entered 1 ∷ Done ∷ OnChannel (channel 0) ∷ Done ∷ Posted ∷ Done ∷ Posted
+    ∷ told 3 (Connected (channel 0)) ∷ Posted ∷ Done ∷ Done ∷ Empty ∷ Done ∷ []

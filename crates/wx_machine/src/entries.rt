@@ -1,0 +1,64 @@
+use crate::contexts::{Context, Listens, Target};
+use crate::texts::JsonText;
+use wx_id::{ChannelNo, ContextNo, Event, Utf8Text};
+
+/// Who makes a call.
+#[derive(Clone, Copy, Debug, PartialEq, Eq)]
+pub enum Who {
+    Context(ContextNo),
+}
+
+/// A call of the broker.
+#[derive(Debug, Drop)]
+pub enum Call {
+    /// A context comes in.
+    Enter(Context),
+    /// The caller says what it listens to.
+    Listen(Listens),
+    /// The caller leaves.
+    Leave,
+    /// The caller opens a channel to a target, with a port name (`runtime.connect`).
+    Connect(Target, Utf8Text),
+    /// The caller posts a message on a channel (`Port.postMessage`).
+    Post(ChannelNo, JsonText),
+    /// The caller closes a channel (`Port.disconnect`).
+    Disconnect(ChannelNo),
+    /// The caller takes the first event that is pending for it.
+    Take,
+}
+
+/// The broker's answer to a call.
+#[derive(Clone, Copy, Debug, PartialEq, Eq)]
+pub enum Answer {
+    /// The number of the context that came in.
+    Entered(ContextNo),
+    /// The number of the channel that was opened.
+    Channel(ChannelNo),
+    /// The event that was taken.
+    Event(Event),
+    Done,
+    /// The caller does not live.
+    Gone,
+    /// No context that the target names listens.
+    NoReceiver,
+    /// The message goes to the other side.
+    Posted,
+    /// The caller is no end of that channel.
+    NoPort,
+    /// The channel is closed.
+    PortClosed,
+    /// The text has more than 67,108,864 bytes.
+    TooLong,
+    /// The channel was closed before.
+    NoEffect,
+    /// Nothing is pending.
+    Empty,
+}
+
+/// A call, who made it, and its answer.
+#[derive(Debug, Drop)]
+pub struct Entry {
+    pub who: Who,
+    pub call: Call,
+    pub answer: Answer,
+}

@@ -1,0 +1,15 @@
+//! The messaging machine: calls, answers, entries, and the definitions of what each call is answered.
+#![tactic(auto)]
+
+mod contexts;
+mod entries;
+pub mod laws;
+#[cfg(test)]
+mod tests;
+mod texts;
+mod world;
+
+pub use contexts::{Context, Listens, Target};
+pub use entries::{Answer, Call, Entry, Who};
+pub use texts::{JsonText, PagePath, PathFault};
+pub use world::World;

@@ -1,0 +1,155 @@
+ghost use Rattle.std.specs.Prelude.{◌≡◌, ◌↔◌, length, IsTrue, IsOk, IfOk, IfErr, false};
+ghost use Rattle.wx_machine.specs.Texts as texts;
+
+use std::alloc::Global;
+use std::marker::Model;
+use wx_id::{NoMemory, Utf8Text};
+
+/// The path of an extension's page: `/`, and printable ASCII bytes but the space. Contracts see its bytes.
+#[derive(Debug, Drop)]
+pub struct PagePath {
+    text: Utf8Text,
+}
+
+impl Model for PagePath {
+    ghost use Rattle.std.specs.Prelude.{List, ℕ, IsTrue};
+    ghost use Rattle.wx_machine.specs.Texts.{is_page_path};
+
+    ghost Value = { List ℕ };
+
+    ghost view = { λ path. path.text };
+
+    ghost invariant = { λ path. IsTrue (is_page_path path.text) };
+}
+
+/// Why a text is not read as a path.
+#[derive(Clone, Copy, Debug, PartialEq, Eq)]
+pub enum PathFault {
+    /// It is no path.
+    BadPath,
+    NoMemory,
+}
+
+/// Whether each byte is printable ASCII other than the space.
+fn are_printable(bytes: &[u8]) -> bool
+    ensures { result ≡ texts.is_printable bytes.now }
+{
+    bytes.iter().all(|byte| byte.is_ascii_graphic())
+}
+
+fn is_page_path(bytes: &[u8]) -> bool
+    ensures { result ≡ texts.is_page_path bytes.now }
+{
+    match bytes.split_first() {
+        Some((first, others)) => *first == b'/' && are_printable(others),
+        None => false,
+    }
+}
+
+impl PagePath {
+    /// Reads a path.
+    pub fn read(alloc: Global, text: &str) -> Result<PagePath, PathFault>
+        ensures ok { IfOk result (λ path. (path ≡ text.now) × IsTrue (texts.is_page_path text.now)) }
+        ensures bad { result ≡ Err PathFault.BadPath → texts.is_page_path text.now ≡ false }
+    {
+        if !is_page_path(text.as_bytes()) {
+            return Err(PathFault::BadPath);
+        }
+        match Utf8Text::new(alloc, text) {
+            Ok(text) => Ok(PagePath { text }),
+            Err(NoMemory) => Err(PathFault::NoMemory),
+        }
+    }
+
+    /// Its text.
+    pub fn text(&self) -> &str
+        ensures value { result.now ≡ self.now }
+        ensures sort { IsTrue (texts.is_page_path self.now) }
+    {
+        self.text.as_str()
+    }
+
+    /// An equal path.
+    pub fn try_clone(&self) -> Result<PagePath, NoMemory>
+        ensures { IfOk result (λ copy. copy ≡ self.now) }
+    {
+        match self.text.try_clone() {
+            Ok(text) => Ok(PagePath { text }),
+            Err(NoMemory) => Err(NoMemory),
+        }
+    }
+}
+
+/// A message: a decimal number without a sign or leading zeros. Contracts see its bytes.
+#[derive(Debug, Drop)]
+pub struct JsonText {
+    bytes: Vec<u8>,
+}
+
+impl Model for JsonText {
+    ghost use Rattle.std.specs.Prelude.{List, ℕ, IsTrue};
+    ghost use Rattle.wx_machine.specs.Texts.{is_number};
+
+    ghost Value = { List ℕ };
+
+    ghost view = { λ text. text.bytes.items };
+
+    ghost invariant = { λ text. IsTrue (is_number text.bytes.items) };
+}
+
+fn are_digits(bytes: &[u8]) -> bool
+    ensures { result ≡ texts.are_digits bytes.now }
+{
+    bytes.iter().all(|byte| byte.is_ascii_digit())
+}
+
+fn is_number(bytes: &[u8]) -> bool
+    ensures { result ≡ texts.is_number bytes.now }
+{
+    match bytes.split_first() {
+        Some((first, others)) => {
+            first.is_ascii_digit() && are_digits(others) && (*first != b'0' || others.is_empty())
+        }
+        None => false,
+    }
+}
+
+impl JsonText {
+    /// The number that these digits are; they come back where they are none.
+    pub fn number(digits: Vec<u8>) -> Result<JsonText, Vec<u8>>
+        ensures exact { IsOk result ↔ IsTrue (texts.is_number digits.items) }
+        ensures ok { IfOk result (λ text. text ≡ digits.items) }
+        ensures returned { IfErr result (λ back. back ≡ digits) }
+    {
+        if is_number(&digits) {
+            Ok(JsonText { bytes: digits })
+        } else {
+            Err(digits)
+        }
+    }
+
+    /// Its bytes.
+    pub fn bytes(&self) -> &[u8]
+        ensures value { result.now ≡ self.now }
+        ensures sort { IsTrue (texts.is_number self.now) }
+    {
+        self.bytes.as_slice()
+    }
+
+    /// How many bytes it has.
+    pub fn len(&self) -> u64
+        ensures { result ≡ length self.now }
+    {
+        self.bytes.len() as u64
+    }
+
+    /// An equal text.
+    pub fn try_clone(&self) -> Result<JsonText, NoMemory>
+        ensures { IfOk result (λ copy. copy ≡ self.now) }
+    {
+        match self.bytes.clone() {
+            Ok(bytes) => Ok(JsonText { bytes }),
+            Err(_) => Err(NoMemory),
+        }
+    }
+}

@@ -1,0 +1,37 @@
+-- How a journal carries out the scripts of its endpoints.
+use Rattle.std.specs.Prelude.{◌≡◌, ℕ, List, slice_get, Some, IsTrue, reverse}
+use Rattle.wx_id.specs.declared.numbers.ContextNo.{ContextNo}
+use Rattle.wx_machine.specs.declared.entries.Who.{Who}
+use Rattle.wx_machine.specs.declared.entries.Who.TheVariants.{Context as ByContext}
+use Rattle.wx_machine.specs.declared.entries.Entry.{Entry}
+use Rattle.wx_machine.specs.Contexts.{is_enter}
+use Rattle.wx_machine.specs.Each.{EachAfter}
+use Rattle.wx_script.specs.declared.script.Act.{Act}
+use Rattle.wx_script.specs.Places.{Next, enters, asks, ends, next_of}
+
+-- an entry may come where this is next
+abbrev pub MayCome : Next → Entry → Type 0
+MayCome enters e = IsTrue (is_enter e.call)
+MayCome (asks x) e = e.call ≡ x
+MayCome ends e = ⊥
+
+-- Context c is an endpoint, and the entry is what its script asks for behind the entries before it.
+pub record IsAskedOf (scripts : List (List Act)) (past : List Entry) (c : ContextNo) (e : Entry) : Type 0 where
+  pub script : List Act
+  pub is_endpoint : slice_get scripts c.0 ≡ Some script
+  pub asked : MayCome (next_of script c past) e
+
+abbrev pub AskedOf : List (List Act) → List Entry → Who → Entry → Type 0
+AskedOf scripts past (ByContext c) e = IsAskedOf scripts past c e
+
+-- the entry is its endpoint's, and what that endpoint's script asks for
+abbrev pub FollowsScript : List (List Act) → List Entry → Entry → Type 0
+FollowsScript scripts past e = AskedOf scripts past e.who e
+
+-- Each entry is what its endpoint's script asks for at that place: each endpoint's entries carry out its script in order.
+abbrev pub CarriesOut : List (List Act) → List Entry → Type 0
+CarriesOut scripts journal = EachAfter (FollowsScript scripts) (reverse journal)
+
+-- every script has ended
+abbrev pub IsDone : List (List Act) → List Entry → Type 0
+IsDone scripts past = (c : ℕ) (script : List Act) → slice_get scripts c ≡ Some script → next_of script (record { 0 = c }) past ≡ ends

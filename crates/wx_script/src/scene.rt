@@ -1,0 +1,101 @@
+ghost use Rattle.std.specs.Prelude.{◌≡◌};
+
+use crate::script::Script;
+use std::marker::Model;
+use wx_id::{ExtensionId, Utf8Text};
+use wx_machine::Context;
+
+/// An extension that a scene declares.
+#[derive(Debug, Drop)]
+pub struct SceneExtension {
+    pub name: Utf8Text,
+    pub id: ExtensionId,
+}
+
+/// A context that a scene declares, with its script.
+#[derive(Debug, Drop)]
+pub struct SceneEndpoint {
+    pub name: Utf8Text,
+    pub context: Context,
+    pub script: Script,
+}
+
+/// What is wrong with a scene.
+#[derive(Clone, Copy, Debug, PartialEq, Eq)]
+pub enum SceneKind {
+    /// There is no such file.
+    Missing,
+    /// The file has more than 67,108,864 bytes.
+    Large,
+    /// The first line is not the head line.
+    Head,
+    /// The line has none of the forms.
+    Form,
+    /// A script line stands above every endpoint.
+    Order,
+    /// An extension's id is none.
+    Id,
+    /// A name or an id stood in an earlier line.
+    Repeated,
+    /// The extension is not declared above.
+    Unknown,
+    /// No earlier command of the script binds the variable.
+    Unbound,
+    /// An endpoint or a command is one too many.
+    Many,
+}
+
+/// The first faulty line, from 1, and what is wrong with it.
+#[derive(Clone, Copy, Debug, PartialEq, Eq)]
+pub struct SceneFault {
+    pub line: u64,
+    pub kind: SceneKind,
+}
+
+/// Why bytes are not read as a scene.
+#[derive(Clone, Copy, Debug, PartialEq, Eq)]
+pub enum SceneReadFault {
+    Bad(SceneFault),
+    NoMemory,
+}
+
+/// A scene that was read: its extensions and its endpoints, in order.
+#[derive(Debug, Drop)]
+pub struct Scene {
+    extensions: Vec<SceneExtension>,
+    endpoints: Vec<SceneEndpoint>,
+}
+
+impl Model for Scene {
+    ghost use Rattle.wx_script.specs.SceneValue.{SceneValue};
+
+    ghost Value = { SceneValue };
+
+    ghost view = { λ scene. record { extensions = scene.extensions.items; endpoints = scene.endpoints.items } };
+}
+
+impl Scene {
+    /// The scene of these parts.
+    pub(crate) fn new(extensions: Vec<SceneExtension>, endpoints: Vec<SceneEndpoint>) -> Scene
+        ensures { result ≡ record { extensions = extensions.items; endpoints = endpoints.items } }
+    {
+        Scene {
+            extensions,
+            endpoints,
+        }
+    }
+
+    /// Its extensions in order.
+    pub fn extensions(&self) -> &[SceneExtension]
+        ensures { result.now ≡ self.now.extensions }
+    {
+        self.extensions.as_slice()
+    }
+
+    /// Its endpoints in order.
+    pub fn endpoints(&self) -> &[SceneEndpoint]
+        ensures { result.now ≡ self.now.endpoints }
+    {
+        self.endpoints.as_slice()
+    }
+}

@@ -1,0 +1,7 @@
+use Rattle.std.proofs.Common.{◌≡◌, take}
+use Rattle.std.specs.Prelude.{reverse}
+use Rattle.wx_machine.specs.Contexts.{is_there, context_of}
+use Rattle.wx_walks.proofs.contexts.came.Given as goal
+
+abbrev pub invariant-loop-e : goal.invariant-loop-e
+invariant-loop-e l = l.there ≡ is_there (context_of (reverse (take l.e-index l.entries)) l.c)

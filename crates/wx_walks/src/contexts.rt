@@ -1,0 +1,236 @@
+//! The contexts of a journal: who lives, what they listen to, and whom a target reaches.
+ghost use Rattle.std.specs.Prelude.{◌≡◌, ◌&&◌, bytes_eq, filter, true, reverse, option_copied};
+ghost use Rattle.std.specs.Option.{option_or};
+ghost use Rattle.std.specs.List.{list_any};
+ghost use Rattle.wx_machine.specs.Contexts.{is_by, is_there, if_numbered, enters, context_of, has_left, is_live, is_leave, contexts, listens_of, listens_after, extension_of, is_extension, hears, names, names_if, is_receiver, receivers_of, numbers_of, Connection};
+
+use wx_id::{ContextNo, ExtensionId};
+use wx_machine::{Answer, Call, Context, Entry, Listens, Target, Who};
+
+/// The entry brings context c in.
+pub fn brings(e: &Entry, c: ContextNo) -> bool
+    ensures { result ≡ is_there (if_numbered c (enters e.now)) }
+{
+    match (&e.who, &e.call, &e.answer) {
+        (Who::Context(_), Call::Enter(_), Answer::Entered(n)) => *n == c,
+        _ => false,
+    }
+}
+
+/// Context c makes the call.
+pub fn is_by(who: Who, c: ContextNo) -> bool
+    ensures { result ≡ is_by who c }
+{
+    match who {
+        Who::Context(d) => d == c,
+    }
+}
+
+/// How many contexts were brought in.
+#[tactic(auto, using(crate::proofs::Past::past_at_read))]
+pub fn count(entries: &[Entry]) -> u64
+    ensures { result ≡ contexts (reverse entries.now) }
+{
+    let mut count: u64 = 0;
+    for e in entries {
+        if let Call::Enter(_) = &e.call {
+            count += 1;
+        }
+    }
+    count
+}
+
+/// Context c came in.
+#[tactic(auto, using(crate::proofs::Past::past_at_read, crate::proofs::Past::came_more))]
+pub fn came(entries: &[Entry], c: ContextNo) -> bool
+    ensures { result ≡ is_there (context_of (reverse entries.now) c) }
+{
+    let mut there = false;
+    for e in entries {
+        if brings(e, c) {
+            there = true;
+        }
+    }
+    there
+}
+
+/// The entry is a leave of context c.
+pub fn leaves(e: &Entry, c: ContextNo) -> bool
+    ensures { result ≡ (is_leave e.now.call && is_by e.now.who c) }
+{
+    match &e.call {
+        Call::Leave => is_by(e.who, c),
+        _ => false,
+    }
+}
+
+/// Context c left after it came in.
+#[tactic(auto, using(crate::proofs::Past::past_at_read, crate::proofs::Past::came_more))]
+pub fn has_left(entries: &[Entry], c: ContextNo) -> bool
+    ensures { result ≡ has_left (reverse entries.now) c }
+{
+    let mut there = false;
+    let mut left = false;
+    for e in entries {
+        if there && leaves(e, c) {
+            left = true;
+        }
+        if brings(e, c) {
+            there = true;
+        }
+    }
+    left
+}
+
+/// Context c came in and did not leave.
+pub fn is_live(entries: &[Entry], c: ContextNo) -> bool
+    ensures { result ≡ is_live (reverse entries.now) c }
+{
+    came(entries, c) && !has_left(entries, c)
+}
+
+/// What context c listens to.
+#[tactic(auto, using(crate::proofs::Past::past_at_read))]
+pub fn listens_of(entries: &[Entry], c: ContextNo) -> Listens
+    ensures { result ≡ listens_of (reverse entries.now) c }
+{
+    let mut last = Listens {
+        connect: false,
+        message: false,
+        external_connect: false,
+        external_message: false,
+    };
+    for e in entries {
+        last = listens_after(e, c, last);
+    }
+    last
+}
+
+/// What context c listens to after the entry, given what it listened to before.
+fn listens_after(e: &Entry, c: ContextNo, before: Listens) -> Listens
+    ensures { result ≡ listens_after e.now.call (is_by e.now.who c) before }
+{
+    match &e.call {
+        Call::Listen(l) => { if is_by(e.who, c) { *l } else { before } }
+        _ => before,
+    }
+}
+
+/// Context c, where the entry brings it in.
+fn brought(e: &Entry, c: ContextNo) -> Option<&Context>
+    ensures { option_copied result ≡ if_numbered c (enters e.now) }
+{
+    match (&e.who, &e.call, &e.answer) {
+        (Who::Context(_), Call::Enter(x), Answer::Entered(n)) => {
+            if *n == c { Some(x) } else { None }
+        }
+        _ => None,
+    }
+}
+
+/// Context c, as it was brought in.
+#[tactic(auto, using(crate::proofs::Past::past_at_read))]
+pub fn context_of(entries: &[Entry], c: ContextNo) -> Option<&Context>
+    ensures { option_copied result ≡ context_of (reverse entries.now) c }
+{
+    let mut found = None;
+    for e in entries {
+        found = first_of(found, brought(e, c));
+    }
+    found
+}
+
+/// The first of two that is there.
+fn first_of<'a>(a: Option<&'a Context>, b: Option<&'a Context>) -> Option<&'a Context>
+    ensures { option_copied result ≡ option_or (option_copied a.entry) (option_copied b.entry) }
+{
+    match a {
+        Some(x) => Some(x),
+        None => b,
+    }
+}
+
+/// The extension of a context.
+pub fn extension_of(x: &Context) -> Option<&ExtensionId>
+    ensures { option_copied result ≡ extension_of x.now }
+{
+    match x {
+        Context::Page { ext, path: _ } => Some(ext),
+    }
+}
+
+fn same_extension(a: &ExtensionId, b: &ExtensionId) -> bool
+    ensures { result ≡ bytes_eq a.now b.now }
+{
+    *a == *b
+}
+
+fn is_extension(own: Option<&ExtensionId>, id: &ExtensionId) -> bool
+    ensures { result ≡ is_extension (option_copied own.entry) id.now }
+{
+    match own {
+        Some(ext) => same_extension(ext, id),
+        None => false,
+    }
+}
+
+/// Whether the target of a caller from that extension names the other context.
+pub fn names(own: Option<&ExtensionId>, target: Target, y: &Context) -> bool
+    ensures { result ≡ names (option_copied own.entry) target y.now }
+{
+    match (target, y) {
+        (Target::Own, Context::Page { ext, path: _ }) => is_extension(own, ext),
+    }
+}
+
+/// Whether one who listens so hears a connection.
+pub fn hears(l: Listens) -> bool
+    ensures { result ≡ hears Connection l }
+{
+    l.connect
+}
+
+fn names_if(x: Option<&Context>, target: Target, y: Option<&Context>, l: Listens) -> bool
+    ensures { result ≡ names_if (option_copied x.entry) target Connection (option_copied y.entry) l }
+{
+    match (x, y) {
+        (Some(x), Some(y)) => names(extension_of(x), target, y) && hears(l),
+        _ => false,
+    }
+}
+
+/// Whether context d is a receiver of a connection from c to the target.
+pub fn is_receiver(entries: &[Entry], c: ContextNo, target: Target, d: ContextNo) -> bool
+    ensures { result ≡ is_receiver (reverse entries.now) c target Connection d }
+{
+    d != c
+        && is_live(entries, d)
+        && names_if(
+            context_of(entries, c),
+            target,
+            context_of(entries, d),
+            listens_of(entries, d),
+        )
+}
+
+/// Whether the entry f brings in a context that is a receiver.
+fn brings_receiver(at: &[Entry], c: ContextNo, target: Target, f: &Entry) -> bool
+    ensures { result ≡ list_any (λ _. true) (filter (is_receiver (reverse at.now) c target Connection) (numbers_of (enters f.now))) }
+{
+    match (&f.who, &f.call, &f.answer) {
+        (Who::Context(_), Call::Enter(_), Answer::Entered(n)) => is_receiver(at, c, target, *n),
+        _ => false,
+    }
+}
+
+/// The target has a receiver.
+#[tactic(auto, using(crate::proofs::Past::past_at_read, crate::proofs::ClosingLater::some_more))]
+pub fn has_receiver(at: &[Entry], c: ContextNo, target: Target) -> bool
+    ensures { result ≡ list_any (λ _. true) (receivers_of (reverse at.now) c target Connection) }
+{
+    let mut any = false;
+    for f in at {
+        any = any || brings_receiver(at, c, target, f);
+    }
+    any
+}

@@ -1,0 +1,278 @@
+//! What entries deliver, and which events are pending for a context.
+ghost use Rattle.std.specs.Prelude.{◌≡◌, filter, length, map, reverse, flat_map};
+ghost use Rattle.std.specs.Option.{option_or};
+ghost use Rattle.std.specs.List.{list_any, range_with_len};
+ghost use Rattle.wx_machine.specs.Channels.{channels, channel, opens, end_in};
+ghost use Rattle.wx_machine.specs.Contexts.{is_by};
+ghost use Rattle.wx_machine.specs.Events.{message, disconnected_on, disconnected, delivered, taken, goes_to, is_dropped, drops_by, is_of, is_waiting, same_event, same_kind, event_in, pending, first, marked, on, is_receiving};
+
+use crate::channels;
+use crate::channels::{end_at_opening, end_of};
+use crate::closing::closes;
+use crate::contexts::{is_by, is_live};
+use wx_id::{ChannelNo, ContextNo, End, EntryNo, Event, EventKind};
+use wx_machine::{Answer, Call, Entry, Who};
+
+fn same_kind(a: EventKind, b: EventKind) -> bool
+    ensures { result ≡ same_kind a b }
+{
+    match (a, b) {
+        (EventKind::Connected(k), EventKind::Connected(j)) => k == j,
+        (EventKind::Message(k), EventKind::Message(j)) => k == j,
+        (EventKind::Disconnected(k), EventKind::Disconnected(j)) => k == j,
+        _ => false,
+    }
+}
+
+fn same_event(a: Event, b: Event) -> bool
+    ensures { result ≡ same_event a b }
+{
+    a.entry == b.entry && same_kind(a.kind, b.kind)
+}
+
+/// Whether an event is of channel k.
+fn is_of(kind: EventKind, k: ChannelNo) -> bool
+    ensures { result ≡ is_of k.0 kind }
+{
+    match kind {
+        EventKind::Connected(j) | EventKind::Message(j) | EventKind::Disconnected(j) => j == k,
+    }
+}
+
+/// The entry takes the event.
+fn takes(e: &Entry, c: ContextNo, event: Event) -> bool
+    ensures { result ≡ list_any (λ t. same_event t event) (event_in e.now.call e.now.answer (is_by e.now.who c)) }
+{
+    match (&e.call, &e.answer) {
+        (Call::Take, Answer::Event(t)) => is_by(e.who, c) && same_event(*t, event),
+        _ => false,
+    }
+}
+
+/// Context c took the event.
+#[tactic(auto, using(crate::proofs::Past::past_at_read, crate::proofs::EventsLater::taken_more))]
+pub fn was_taken(entries: &[Entry], c: ContextNo, event: Event) -> bool
+    ensures { result ≡ list_any (λ t. same_event t event) (taken (reverse entries.now) c) }
+{
+    let mut was = false;
+    for e in entries {
+        was = was || takes(e, c, event);
+    }
+    was
+}
+
+/// The entry drops events of this kind.
+fn drops(e: &Entry, kind: EventKind) -> bool
+    ensures { result ≡ drops_by e.now.call e.now.answer kind }
+{
+    match (&e.call, &e.answer) {
+        (Call::Disconnect(k), Answer::Done) => is_of(kind, *k),
+        _ => false,
+    }
+}
+
+/// Context c disconnected the event's channel after it.
+#[tactic(auto, using(crate::proofs::Past::past_at_read, crate::proofs::Past::length_past))]
+pub fn is_dropped(entries: &[Entry], c: ContextNo, event: Event) -> bool
+    ensures { result ≡ is_dropped (reverse entries.now) c event }
+{
+    let mut dropped = false;
+    for (i, e) in entries.iter().enumerate() {
+        dropped = dropped || (is_by(e.who, c) && drops(e, event.kind) && event.entry.0 < i as u64);
+    }
+    dropped
+}
+
+/// The event was not taken by context c, and its channel not disconnected by it.
+pub fn is_waiting(entries: &[Entry], c: ContextNo, event: Event) -> bool
+    ensures { result ≡ is_waiting (reverse entries.now) c event }
+{
+    !was_taken(entries, c, event) && !is_dropped(entries, c, event)
+}
+
+/// The event of the entry i that waits, if the entry tells of it.
+fn waiting_if(
+    told: bool,
+    entries: &[Entry],
+    i: usize,
+    c: ContextNo,
+    kind: EventKind,
+) -> Option<Event>
+    ensures { result ≡ first (filter (is_waiting (reverse entries.now) c) (map (marked i) (on told kind))) }
+{
+    let event = Event {
+        entry: EntryNo(i as u64),
+        kind,
+    };
+    if told && is_waiting(entries, c, event) {
+        Some(event)
+    } else {
+        None
+    }
+}
+
+/// What the caller does on channel k goes to context c.
+fn goes_to(before: &[Entry], k: ChannelNo, who: Who, c: ContextNo) -> bool
+    ensures { result ≡ goes_to (reverse before.now) (channel (reverse before.now) k.0) who c }
+{
+    let from = match who {
+        Who::Context(d) => end_of(before, k, d),
+    };
+    match (from, end_of(before, k, c)) {
+        (End::Opener, End::Receiver) => is_live(before, c),
+        (End::Receiver, End::Opener) => true,
+        _ => false,
+    }
+}
+
+/// Whether the entry opens a channel to context c.
+fn is_told_connected(before: &[Entry], e: &Entry, c: ContextNo) -> bool
+    ensures { result ≡ is_receiving (end_in (opens (reverse before.now) e.now) c) }
+{
+    end_at_opening(before, e, c) == End::Receiver
+}
+
+/// The message that the entry sends to context c, if it waits.
+fn waiting_message(
+    entries: &[Entry],
+    i: usize,
+    before: &[Entry],
+    e: &Entry,
+    c: ContextNo,
+) -> Option<Event>
+    ensures { result ≡ first (filter (is_waiting (reverse entries.now) c) (map (marked i) (message (reverse before.now) e.now.who e.now.call e.now.answer c))) }
+{
+    match (&e.call, &e.answer) {
+        (Call::Post(k, _), Answer::Posted) => waiting_if(
+            goes_to(before, *k, e.who, c),
+            entries,
+            i,
+            c,
+            EventKind::Message(*k),
+        ),
+        _ => None,
+    }
+}
+
+/// The end of channel k, if the entry tells context c of it and it waits.
+fn waiting_disconnected_on(
+    entries: &[Entry],
+    i: usize,
+    before: &[Entry],
+    e: &Entry,
+    c: ContextNo,
+    k: ChannelNo,
+) -> Option<Event>
+    ensures { result ≡ first (filter (is_waiting (reverse entries.now) c) (map (marked i) (disconnected_on (reverse before.now) e.now c k.0))) }
+{
+    waiting_if(
+        goes_to(before, k, e.who, c) && closes(before, e, k),
+        entries,
+        i,
+        c,
+        EventKind::Disconnected(k),
+    )
+}
+
+/// The first of two that is there.
+fn first_of(a: Option<Event>, b: Option<Event>) -> Option<Event>
+    ensures { result ≡ option_or a b }
+{
+    match a {
+        Some(event) => Some(event),
+        None => b,
+    }
+}
+
+/// The first end of any channel of which the entry tells context c and that waits.
+#[tactic(auto, using(crate::proofs::EventsLater::disconnected_more, crate::proofs::EventsLater::first_events))]
+fn waiting_every_disconnected(
+    entries: &[Entry],
+    i: usize,
+    before: &[Entry],
+    e: &Entry,
+    c: ContextNo,
+) -> Option<Event>
+    ensures { result ≡ first (filter (is_waiting (reverse entries.now) c) (map (marked i) (flat_map (disconnected_on (reverse before.now) e.now c) (range_with_len 0 (length (channels (reverse before.now))))))) }
+{
+    let mut found = None;
+    for k in 0..channels::count(before) {
+        found = first_of(
+            found,
+            waiting_disconnected_on(entries, i, before, e, c, ChannelNo(k)),
+        );
+    }
+    found
+}
+
+/// The first end of a channel of which the entry tells context c and that waits. Only a leave can end
+/// more than one.
+fn waiting_disconnected(
+    entries: &[Entry],
+    i: usize,
+    before: &[Entry],
+    e: &Entry,
+    c: ContextNo,
+) -> Option<Event>
+    ensures { result ≡ first (filter (is_waiting (reverse entries.now) c) (map (marked i) (disconnected (reverse before.now) e.now e.now.call c))) }
+{
+    match &e.call {
+        Call::Disconnect(k) => waiting_disconnected_on(entries, i, before, e, c, *k),
+        Call::Leave => waiting_every_disconnected(entries, i, before, e, c),
+        _ => None,
+    }
+}
+
+/// The first event that the entry i delivers to context c and that waits.
+#[tactic(auto, using(crate::proofs::EventsLater::delivered_first))]
+fn waiting_of(
+    entries: &[Entry],
+    i: usize,
+    before: &[Entry],
+    e: &Entry,
+    c: ContextNo,
+) -> Option<Event>
+    requires { i ≡ length before.now }
+    ensures { result ≡ first (filter (is_waiting (reverse entries.now) c) (delivered (reverse before.now) e.now c)) }
+{
+    let opened = waiting_if(
+        is_told_connected(before, e, c),
+        entries,
+        i,
+        c,
+        EventKind::Connected(ChannelNo(channels::count(before))),
+    );
+    let posted = waiting_message(entries, i, before, e, c);
+    let ended = waiting_disconnected(entries, i, before, e, c);
+    first_of(first_of(opened, posted), ended)
+}
+
+/// The event that was found, or else the first that the entry i delivers and that waits.
+fn found_after(
+    found: Option<Event>,
+    entries: &[Entry],
+    i: usize,
+    before: &[Entry],
+    e: &Entry,
+    c: ContextNo,
+) -> Option<Event>
+    requires { i ≡ length before.now }
+    ensures { result ≡ option_or found (first (filter (is_waiting (reverse entries.now) c) (delivered (reverse before.now) e.now c))) }
+{
+    match found {
+        Some(event) => Some(event),
+        None => waiting_of(entries, i, before, e, c),
+    }
+}
+
+/// The first event that is pending for context c.
+#[tactic(auto, using(crate::proofs::Past::past_at_read, crate::proofs::EventsLater::queued_more))]
+pub fn first_pending(entries: &[Entry], c: ContextNo) -> Option<Event>
+    ensures { result ≡ first (pending (reverse entries.now) c) }
+{
+    let mut found = None;
+    for (i, e) in entries.iter().enumerate() {
+        found = found_after(found, entries, i, &entries[..i], e, c);
+    }
+    found
+}
