@@ -27,8 +27,13 @@ impl Model for Extension {
 
     ghost Value = { Manifest };
 
-    ghost view = { λ e. record { manifest_version = e.manifest_version; name = e.name; version = e.version;
-        native = e.native; external = e.external } };
+    ghost view = { λ e. record {
+      manifest_version = e.manifest_version;
+      name = e.name;
+      version = e.version;
+      native = e.native;
+      external = e.external;
+    } };
 }
 
 /// What stands under `externally_connectable`, where it is there.

@@ -10,3 +10,6 @@ mod patterns;
 
 pub use extension::Extension;
 pub use faults::{Key, ManifestFault};
+
+#[cfg(test)]
+mod tests;
