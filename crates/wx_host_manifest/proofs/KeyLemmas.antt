@@ -1,19 +1,19 @@
 -- What stands under a key, file names and lists of origins.
-use Rattle.std.proofs.Common.{◌≡◌, ◌≢◌, ℕ, zero, suc, ◌+◌, ◌-◌, ◌<◌, ◌∷◌, ◌++◌, List, [], length, drop, take, get_or, map, Bor, eqb, refl, Bool, true, false, Option, Some, None, Result, Ok, Err, arith, ap, sym, ◌∙◌, inl, inr}
-use Rattle.std.specs.Prelude.{codes, is_some, not, ◌||◌, slice_get, IsTrue}
-use Rattle.std.specs.Bool.{Decides}
+use Rattle.std.proofs.Common.{◌≡◌, ℕ, zero, suc, ◌+◌, ◌-◌, ◌∷◌, ◌++◌, List, [], length, drop, take, map, Bor, eqb, refl, Bool, true, false, Option, Some, None, Result, ap, sym, ◌∙◌, inl, inr}
+use Rattle.std.specs.Prelude.{codes, is_some, not, ◌||◌, slice_get}
 use Rattle.std.specs.List.{position_from, list_all, list_any}
 use Rattle.std.specs.Cmp.Lexicographic.{pointwise}
 use Rattle.std.specs.Str.{bytes_eq}
 use Rattle.std.proofs.lemmas.Bool.{cases_Bool, cond-true, cond-false, and_parts, and_from, false_from_ne_true, not_from_true, not_from_false, false≢true}
 use Rattle.std.proofs.lemmas.Bool.Decides.{same_from_decides, Decides-like, Decides-eqb}
-use Rattle.std.proofs.lemmas.List.{append_cancel_right, drop_more, map-append, take_more}
-use Rattle.std.proofs.lemmas.Option.{slice_get-get_or, slice_get_within, get_or_from_slice_get}
+use Rattle.std.proofs.lemmas.List.{append_cancel_right, map-append, take_more}
+use Rattle.std.proofs.lemmas.Option.{slice_get_within, get_or_from_slice_get}
 use Rattle.std.proofs.lemmas.Slice.Eq.{bytes_eq-Decides, strip_suffix_is}
 use Rattle.serde_json.specs.Data.{Data}
 use Rattle.serde_json.specs.Find.{get, as_str}
 use Rattle.wx_id.specs.HostNames.{is_host_name, host_name_fault}
 use Rattle.wx_id.proofs.HostNameLemmas.{no_fault_from_host_name}
+use Rattle.wx_manifest_tree.proofs.Places.{position_here, position_later}
 use Rattle.wx_manifest_tree.specs.Tree.{required}
 use Rattle.wx_manifest_tree.specs.declared.KeyFault.{KeyFault}
 use Rattle.wx_host_manifest.specs.Origins.{origin_of, id_in, is_origin, caller_of}
@@ -66,20 +66,15 @@ origin_from_some x id h =
       | inr is ↦ let none = cond-false (is_origin x) (Some (id_in x)) None is in absurd (cc)
     ]
 
-drop_at_get : (xs : List (List ℕ)) (i : ℕ) (x : List ℕ) → slice_get xs i ≡ Some x → drop i xs ≡ x ∷ drop (i + 1) xs
-drop_at_get xs i x h = drop_more xs i x (slice_get_within xs i x h) ∙ ap (λ y. y ∷ drop (i + 1) xs) (get_or_from_slice_get xs i x x h)
-
 pub bad_here : (xs : List (List ℕ)) (i : ℕ) (x : List ℕ) → slice_get xs i ≡ Some x → None ≡ caller_of x
     → position_from (λ text. not (is_origin text)) i (drop i xs) ≡ Some i
 bad_here xs i x here none =
-    ap (position_from is_other i) (drop_at_get xs i x here)
-    ∙ cond-true (is_other x) _ _ (not_from_false (is_origin x) (not_origin_from_none x none))
+    position_here is_other xs i x here (not_from_false (is_origin x) (not_origin_from_none x none))
 
 bad_later : (xs : List (List ℕ)) (i : ℕ) (x id : List ℕ) → slice_get xs i ≡ Some x → Some id ≡ caller_of x
     → position_from (λ text. not (is_origin text)) i (drop i xs) ≡ position_from (λ text. not (is_origin text)) (i + 1) (drop (i + 1) xs)
 bad_later xs i x id here some =
-    ap (position_from is_other i) (drop_at_get xs i x here)
-    ∙ cond-false (is_other x) _ _ (not_from_true (is_origin x) (origin_from_some x id some).0)
+    position_later is_other xs i x here (not_from_true (is_origin x) (origin_from_some x id some).0)
 
 pub all_origins : (xs : List (List ℕ)) (n : ℕ) → position_from (λ text. not (is_origin text)) n xs ≡ None → list_all is_origin xs ≡ true
 all_origins [] n h = refl

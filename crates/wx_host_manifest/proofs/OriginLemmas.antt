@@ -1,11 +1,11 @@
 -- A text cut at the scheme and the last slash against the origin of an extension.
-use Rattle.std.proofs.Common.{◌≡◌, ◌≢◌, ℕ, ◌∷◌, ◌++◌, List, [], length, take, drop, eqb, Bor, ◌+◌, ◌-◌, refl, Bool, true, false, Option, Some, None, arith, ap, sym, ◌∙◌, inl, inr}
-use Rattle.std.specs.Prelude.{codes, ◌&&◌}
+use Rattle.std.proofs.Common.{◌≡◌, ◌≢◌, ℕ, ◌++◌, List, length, take, drop, eqb, Bor, ◌+◌, ◌-◌, true, false, Some, None, arith, ap, sym, ◌∙◌, inl, inr}
+use Rattle.std.specs.Prelude.{codes}
 use Rattle.std.specs.Str.{bytes_eq}
 use Rattle.std.specs.Cmp.Lexicographic.{pointwise}
 use Rattle.std.proofs.lemmas.Bool.{cases_Bool, cond-true, cond-false, and_parts, and_from}
 use Rattle.std.proofs.lemmas.Bool.Decides.{nat_tests, Decides-eqb}
-use Rattle.std.proofs.lemmas.List.{append_cancel_left, append_cancel_right, take_at, drop_at}
+use Rattle.std.proofs.lemmas.List.{append_cancel_left, append_cancel_right, take_at}
 use Rattle.std.proofs.lemmas.Slice.Eq.{bytes_eq-Decides, strip_prefix_is, strip_suffix_is}
 use Rattle.wx_id.specs.Ids.{is_extension_id}
 use Rattle.wx_host_manifest.specs.Origins.{origin_of, id_in, is_origin, caller_of}

@@ -1,6 +1,6 @@
 -- What a native host's manifest holds (Chrome's "Native messaging", "Native messaging host").
 use Rattle.std.specs.Prelude.{ℕ, Bool, true, false, not, ◌==◌, List, [], ◌∷◌, ◌++◌, Option, Some, None, Result, Ok, Err, codes, ⊤}
-use Rattle.std.specs.List.{list_any, list_all, position_from}
+use Rattle.std.specs.List.{list_any, position_from}
 use Rattle.std.specs.Str.{bytes_eq}
 use Rattle.serde_json.specs.Data.{Data}
 use Rattle.serde_json.specs.Find.{get, as_str}
@@ -12,7 +12,7 @@ use Rattle.wx_host_manifest.specs.Origins.{origin_of, is_origin}
 use Rattle.wx_host_manifest.specs.declared.faults.HostKey.{HostKey}
 use Rattle.wx_host_manifest.specs.declared.faults.HostKey.TheVariants.{Name, Description, Path, Kind, Origins}
 use Rattle.wx_host_manifest.specs.declared.faults.HostFault.{HostFault}
-use Rattle.wx_host_manifest.specs.declared.faults.HostFault.TheVariants.{NotJson, Missing, WrongKind, BadName, NameDiffers, NotAbsolute, NotStdio, BadOrigin, NoMemory}
+use Rattle.wx_host_manifest.specs.declared.faults.HostFault.TheVariants.{NotJson, Missing, WrongKind, BadName, NameDiffers, NotAbsolute, NotStdio, BadOrigin}
 
 -- what a manifest holds: its host's name, the program's path and the origins that may call it
 pub record Host : Type 0 where

@@ -1,9 +1,9 @@
 -- What stands under a key, and lists that are judged member by member.
-use Rattle.std.proofs.Common.{◌≡◌, ℕ, zero, suc, ◌+◌, ◌<◌, ◌∷◌, ◌++◌, List, [], length, drop, take, get_or, map, refl, Bool, true, false, Option, Some, None, Result, Ok, Err, arith, ap, sym, ◌∙◌, inl, inr, add-one}
-use Rattle.std.specs.Prelude.{codes, not, slice_get, ◌⊎◌}
+use Rattle.std.proofs.Common.{◌≡◌, ℕ, suc, ◌+◌, ◌∷◌, ◌++◌, List, [], drop, take, map, refl, true, false, Some, Result, Ok, Err, ap, sym, ◌∙◌, inl, inr, add-one}
+use Rattle.std.specs.Prelude.{not, slice_get, ◌⊎◌}
 use Rattle.std.specs.List.{position_from}
 use Rattle.std.proofs.lemmas.Bool.{not_from_true, not_from_false}
-use Rattle.std.proofs.lemmas.List.{append-nil, append_assoc, map-append, take_more, drop_more}
+use Rattle.std.proofs.lemmas.List.{append-nil, append_assoc, map-append, take_more}
 use Rattle.std.proofs.lemmas.Option.{slice_get_within, get_or_from_slice_get}
 use Rattle.serde_json.specs.Data.{Data}
 use Rattle.serde_json.specs.Find.{get, as_str}

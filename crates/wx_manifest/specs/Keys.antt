@@ -1,5 +1,5 @@
 -- Keys and answers of an extension's manifest.
-use Rattle.std.specs.Prelude.{ℕ, Bool, true, false, List, Option, Some, None, Result, Ok, Err, codes, ⊤}
+use Rattle.std.specs.Prelude.{ℕ, List, Option, Some, None, Result, Ok, Err, codes, ⊤}
 use Rattle.wx_manifest_tree.specs.declared.KeyFault.{KeyFault}
 use Rattle.wx_manifest_tree.specs.declared.KeyFault.TheVariants as at
 use Rattle.wx_manifest.specs.declared.faults.Key.{Key}

@@ -1,4 +1,4 @@
-use Rattle.std.proofs.Common.{◌∙◌, ap}
+use Rattle.std.proofs.Common.{◌∙◌}
 use Rattle.wx_host_manifest.proofs.KeyLemmas.{list_any-origins}
 use Rattle.wx_host_manifest.proofs.manifest.HostManifest.admits.Goals as goal
 
