@@ -42,7 +42,7 @@ impl HostKey {
     ghost use Rattle.wx_host_manifest.specs.HostManifests.{key_name};
 
     /// The key as it stands in the manifest.
-    pub fn text(self) -> &'static str
+    pub(crate) fn text(self) -> &'static str
         ensures { result.now ≡ key_name self }
     {
         match self {

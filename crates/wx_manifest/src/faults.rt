@@ -44,7 +44,7 @@ impl Key {
     ghost use Rattle.wx_manifest.specs.Keys.{key_name};
 
     /// The key as it stands in the manifest.
-    pub fn text(self) -> &'static str
+    pub(crate) fn text(self) -> &'static str
         ensures { result.now ≡ key_name self }
     {
         match self {
