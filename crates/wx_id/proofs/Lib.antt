@@ -1,1 +1,2 @@
+pub mod HostNameLemmas
 pub mod IdLemmas

@@ -1,1 +1,2 @@
+pub mod HostNames
 pub mod Ids

@@ -3,6 +3,7 @@
 
 mod events;
 mod extension;
+mod host_name;
 mod numbers;
 #[cfg(test)]
 mod tests;
@@ -10,5 +11,6 @@ mod texts;
 
 pub use events::{End, Event, EventKind};
 pub use extension::{BadId, ExtensionId};
+pub use host_name::{HostName, HostNameFault};
 pub use numbers::{ChannelNo, ContextNo, EntryNo, FrameId, HostNo, RequestNo, TabId};
 pub use texts::{NoMemory, Utf8Text};
