@@ -1,0 +1,87 @@
+-- Plain bytes leave a check inside a string where it is.
+use Rattle.std.proofs.Common.{◌≡◌, ◌≢◌, ℕ, suc, ◌+◌, ◌<◌, ◌≤◌, List, [], ◌∷◌, take, Bool, true, false, not, refl, ap, ◌∙◌, sym, arith, add-zero, inl, inr}
+use Rattle.std.specs.Prelude.{◌==◌, ◌||◌, ◌&&◌, nat_lt, nat_le, cond}
+use Rattle.std.specs.List.{prefix_len}
+use Rattle.std.proofs.lemmas.Bool.{le-leb, eqb-false, leb-false, cases_lt}
+use Rattle.wx_json.specs.Json.{is_between, is_unescaped}
+use Rattle.wx_json.specs.Plain.{is_plain}
+use Rattle.wx_json.specs.Coding.{code}
+use Rattle.wx_json.specs.Machine.{next}
+use Rattle.wx_json.specs.Coding.{whole}
+use Rattle.wx_json.specs.Mode.{Mode}
+use Rattle.wx_json.specs.Coding.{Coding}
+use Rattle.wx_json.specs.Mode.{text}
+use Rattle.wx_json.specs.Check.{Progress, running, advance, advances}
+
+none_of : (a b : Bool) → not (a || b) ≡ true → (a ≡ false) × (b ≡ false)
+none_of true b h = cc
+none_of false true h = cc
+none_of false false h = (refl, refl)
+
+not_true : (a : Bool) → a ≡ false → not a ≡ true
+not_true a e = ap not e
+
+both : (a b : Bool) → a ≡ true → b ≡ true → (a && b) ≡ true
+both true b p q = q
+both false b p q = cc
+
+left : (a b : Bool) → a ≡ true → (a || b) ≡ true
+left true b p = refl
+left false b p = cc
+
+right : (a b : Bool) → b ≡ true → (a || b) ≡ true
+right true b p = refl
+right false b p = p
+
+between : (low high c : ℕ) → low ≤ c → c ≤ high → is_between low high c ≡ true
+between low high c p q = both _ _ (le-leb low c p) (le-leb c high q)
+
+record Plain (c : ℕ) : Type 0 where
+  no_quote : c ≢ 34
+  no_escape : c ≢ 92
+  high : 32 ≤ c
+  low : c < 128
+
+plain : (c : ℕ) → is_plain c ≡ true → Plain c
+plain c h =
+    let a = none_of ((c == 34) || (c == 92) || nat_lt c 32) (nat_le 128 c) h in
+    let b = none_of ((c == 34) || (c == 92)) (nat_lt c 32) (not_true _ a.0) in
+    let d = none_of (c == 34) (c == 92) (not_true _ b.0) in
+    record { no_quote = eqb-false c 34 d.0; no_escape = eqb-false c 92 d.1; high = omega (arith, leb-false (suc c) 32 b.1); low = leb-false 128 c a.1 }
+
+unescaped : (c : ℕ) → Plain c → is_unescaped c ≡ true
+unescaped c p = elim (cases_lt c 34) [
+  | inl lt ↦ left _ _ (left _ _ (between 0x20 0x21 c p.high (omega arith)))
+  | inr ge ↦ elim (cases_lt c 92) [
+    | inl lt ↦ left _ _ (right _ _ (between 0x23 0x5B c (omega (arith, p.no_quote)) (omega arith)))
+    | inr ge2 ↦ right _ _ (le-leb 0x5D c (omega (arith, p.no_escape)))
+  ]
+]
+
+plain-advance : (k c n : ℕ) (j : Bool) (σ : List Bool) → is_plain c ≡ true → advance (running k whole (text j) n σ) c ≡ running (suc k) whole (text j) n σ
+unfolding next code
+plain-advance k c n j σ h =
+    let p = plain c h in
+    rw (between 0x00 0x7F c (omega arith) (omega (arith, p.low)), unescaped c p) refl
+
+plain-more : (x : ℕ) (xs : List ℕ) (k n : ℕ) (j : Bool) (σ : List Bool)
+    → advances (running (suc k) whole (text j) n σ) (take (prefix_len is_plain xs) xs) ≡ running (suc k + prefix_len is_plain xs) whole (text j) n σ
+    → (b : Bool) → is_plain x ≡ b
+    → advances (running k whole (text j) n σ) (take (cond b (1 + prefix_len is_plain xs) 0) (x ∷ xs)) ≡ running (k + cond b (1 + prefix_len is_plain xs) 0) whole (text j) n σ
+plain-more x xs k n j σ rest false h = ap (λ i. running i whole (text j) n σ) (sym (add-zero k))
+plain-more x xs k n j σ rest true h =
+    let e : 1 + prefix_len is_plain xs ≡ suc (prefix_len is_plain xs) = omega arith in
+    let f : suc k + prefix_len is_plain xs ≡ k + (1 + prefix_len is_plain xs) = omega arith in
+    ap (λ i. advances (running k whole (text j) n σ) (take i (x ∷ xs))) e
+    ∙ ap (λ p. advances p (take (prefix_len is_plain xs) xs)) (plain-advance k x n j σ h)
+    ∙ rest ∙ ap (λ i. running i whole (text j) n σ) f
+
+pub run-plain : (xs : List ℕ) (k n : ℕ) (j : Bool) (σ : List Bool)
+    → advances (running k whole (text j) n σ) (take (prefix_len is_plain xs) xs) ≡ running (k + prefix_len is_plain xs) whole (text j) n σ
+run-plain [] k n j σ = ap (λ i. running i whole (text j) n σ) (sym (add-zero k))
+run-plain (x ∷ xs) k n j σ = plain-more x xs k n j σ (run-plain xs (suc k) n j σ) (is_plain x) refl
+
+-- the same, where the places are known by equations
+pub skipped : (xs : List ℕ) (k n i : ℕ) (u : Coding) (m : Mode) (j : Bool) (σ : List Bool) → u ≡ whole → m ≡ text j → i ≡ prefix_len is_plain xs
+    → advances (running k u m n σ) (take i xs) ≡ running (k + i) u m n σ
+skipped xs k n i u m j σ coding mode long = rw (coding, mode, long) (run-plain xs k n j σ)

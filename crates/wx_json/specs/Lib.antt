@@ -1,0 +1,12 @@
+pub mod Json
+pub mod Utf8
+pub mod Text
+pub mod Mode
+pub mod Machine
+pub mod Coding
+pub mod Check
+pub mod Action
+pub mod States
+pub mod Levels
+pub mod View
+pub mod Plain

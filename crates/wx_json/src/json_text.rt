@@ -1,0 +1,71 @@
+ghost use Rattle.std.specs.Prelude.{◌≡◌, length, IfOk, IfErr};
+ghost use Rattle.wx_json.specs.Text.{IsJsonText, IsEndFault};
+ghost use Rattle.wx_json.specs.Check.{Stands};
+
+use crate::{JsonCheck, JsonFault, check};
+use std::marker::Model;
+use wx_id::NoMemory;
+
+/// A JSON text, as its bytes.
+#[derive(Drop)]
+pub struct JsonText {
+    items: Vec<u8>,
+}
+
+impl Model for JsonText {
+    ghost use Rattle.std.specs.Prelude.{ℕ, List};
+    ghost use Rattle.wx_json.specs.Text.{IsJsonText};
+
+    ghost Value = { List ℕ };
+
+    ghost view = { λ a. a.items.items };
+
+    ghost invariant = { λ a. IsJsonText a.items.items };
+}
+
+impl JsonText {
+    /// The bytes as a text, or the fault and the bytes.
+    pub fn new(bytes: Vec<u8>) -> Result<JsonText, (JsonFault, Vec<u8>)>
+        ensures ok { IfOk result (λ text. (text ≡ bytes.items) × IsJsonText bytes.items) }
+        ensures err { IfErr result (λ refused. IsEndFault bytes.items refused.0 × (refused.1.items ≡ bytes.items)) }
+    {
+        match check(&bytes) {
+            Ok(()) => Ok(JsonText { items: bytes }),
+            Err(fault) => Err((fault, bytes)),
+        }
+    }
+
+    /// The bytes that the check was given, as a text, with no second look at them.
+    pub fn from_check(check: &JsonCheck, bytes: Vec<u8>) -> Result<JsonText, (JsonFault, Vec<u8>)>
+        requires { Stands check.now bytes.items }
+        ensures ok { IfOk result (λ text. (text ≡ bytes.items) × IsJsonText bytes.items) }
+        ensures err { IfErr result (λ refused. IsEndFault bytes.items refused.0 × (refused.1.items ≡ bytes.items)) }
+    {
+        match check.finish() {
+            Ok(()) => Ok(JsonText { items: bytes }),
+            Err(fault) => Err((fault, bytes)),
+        }
+    }
+
+    pub fn bytes(&self) -> &[u8]
+        ensures given { result.now ≡ self.now }
+        ensures json { IsJsonText self.now }
+    {
+        &self.items
+    }
+
+    pub fn len(&self) -> u64
+        ensures { result ≡ length self.now }
+    {
+        self.items.len() as u64
+    }
+
+    pub fn try_clone(&self) -> Result<JsonText, NoMemory>
+        ensures { IfOk result (λ text. text ≡ self.now) }
+    {
+        match self.items.clone() {
+            Ok(items) => Ok(JsonText { items }),
+            Err(_) => Err(NoMemory),
+        }
+    }
+}

@@ -1,0 +1,148 @@
+//! The automaton over JSON and UTF-8 as a table: which state a byte leads to from which.
+//!
+//! A state is a letter. Capitals in brackets are the same places in a member's name.
+//!
+//! | State | Where the check stands |
+//! |---|---|
+//! | `W` | a value comes |
+//! | `A` `O` | behind the bracket that opens an array, an object |
+//! | `N` `C` `Z` | a member's name comes; its colon comes; a value has ended |
+//! | `s` (`S`) | in a string |
+//! | `b` (`B`) | behind its reverse solidus |
+//! | `h` `i` `j` `k` (`H` to `K`) | before the first to the fourth digit of `\u` |
+//! | `t` `u` `v` (`T` `U` `V`) | in a character of which one, two, three bytes are left |
+//! | `e` `d` `f` `g` (`E` `D` `F` `G`) | behind E0, ED, F0, F4, whose next byte has a narrower range |
+//! | `m` `z` `n` `p` `c` | behind a minus; a first zero; other digits; the point; the digits behind it |
+//! | `x` `y` `w` | behind an exponent's E; its sign; its digits |
+//! | `P` `Q` `R`, `L` `M` `X` `Y`, `l` `q` `r` | behind so many letters of `true`, `false`, `null` |
+ghost use Rattle.std.specs.Prelude.{◌≡◌, ◌≤◌, ◌+◌, ◌-◌, ◌<◌, ℕ, List, Bool, true, length, take, drop, get_or};
+ghost use Rattle.wx_json.specs.States.{is_state, mode_of, coding_of, entered};
+ghost use Rattle.wx_json.specs.Check.{running, advance, advances};
+
+/// An entry from here on is the next state. One below asks for more than a state.
+pub(crate) const FIRST_STATE: u8 = b'@';
+/// A string that is no name goes on.
+pub(crate) const STRING: u8 = b'+';
+/// A member's name goes on.
+pub(crate) const NAME: u8 = b'*';
+
+pub(crate) const COMMA: u8 = b',';
+
+pub(crate) const OPEN_ARRAY: u8 = b'(';
+
+pub(crate) const OPEN_OBJECT: u8 = b'<';
+/// The container that has just been opened closes.
+pub(crate) const CLOSE_EMPTY: u8 = b'-';
+
+pub(crate) const CLOSE_ARRAY: u8 = b')';
+
+pub(crate) const CLOSE_OBJECT: u8 = b'>';
+/// No UTF-8 text has the byte here. Any other entry is a fault of syntax.
+pub(crate) const BAD_UTF8: u8 = b'!';
+
+/// The class of each byte, from `0` on: the row of the table.
+static CLASSES: [u8; 256] = *b"\
+    00000000011001000000000000000000\
+    2343333333356789:;;;;;;;;;<33333\
+    3====>=33333333333333333333?@A33\
+    3BC==DE33333F3G333HIJK33333L3M33\
+    NNNNNNNNNNNNNNNNOOOOOOOOOOOOOOOO\
+    PPPPPPPPPPPPPPPPPPPPPPPPPPPPPPPP\
+    QQRRRRRRRRRRRRRRRRRRRRRRRRRRRRRR\
+    STTTTTTTTTTTTUTTVWWWXQQQQQQQQQQQ";
+
+/// By the byte's class, then by the state: the 64 columns are for `@` to `O`, `P` to `_`, `` ` `` to `o` and `p` on.
+#[rattlefmt::skip]
+static TRANSITIONS: [[u8; 64]; 41] = [
+    *b"....!!!!............!!!.............!!!!............!!!.........", // other control characters
+    *b".A.C!!!!......NO....!!!W..Z........Z!!!!......Z.....!!!Z..Z.....", // tab, line feed, carriage return
+    *b".A.C!!!!......NO...S!!!W..Z........Z!!!!......Z....s!!!Z..Z.....", // space
+    *b"....!!!!...........S!!!.............!!!!...........s!!!.........", // other bytes of ASCII
+    *b".+*.!!!!......**...C!!!+..........+.!!!!...........Z!!!.........", // "
+    *b"....!!!!...........S!!!.............!!!!...........s!!!.y.......", // +
+    *b"....!!!!...........S!!!...,........,!!!!......,....s!!!,..,.....", // ,
+    *b".m..!!!!...........S!!!m............!!!!...........s!!!.y.......", // -
+    *b"....!!!!...........S!!!.............!!!!......p....s!!!...p.....", // .
+    *b"..*.!!!!...........S!!!...........+.!!!!...........s!!!.........", // /
+    *b".z..!!!!IJK*.......S!!!z...........c!!!!ijk+.zn.c..s!!!www......", // 0
+    *b".n..!!!!IJK*.......S!!!n...........c!!!!ijk+.nn.c..s!!!www......", // 1 to 9
+    *b"...W!!!!...........S!!!.............!!!!...........s!!!.........", // :
+    *b"....!!!!IJK*.......S!!!.............!!!!ijk+.......s!!!.........", // A to D, F, c, d
+    *b"....!!!!IJK*.......S!!!............x!!!!ijk+..x....s!!!...x.....", // E
+    *b".(..!!!!...........S!!!(............!!!!...........s!!!.........", // [
+    *b"..*.!!!!...........B!!!...........+.!!!!...........b!!!.........", // \
+    *b".-..!!!!...........S!!!...)........)!!!!......)....s!!!)..).....", // ]
+    *b"....!!!!IJK*M......S!!!.............!!!!ijk+.......s!!!.........", // a
+    *b"..*.!!!!IJK*.......S!!!...........+.!!!!ijk+.......s!!!.........", // b
+    *b"....!!!!IJK*......ZS!!!..Z.........x!!!!ijk+..x....s!!!...x.....", // e
+    *b".L*.!!!!IJK*.......S!!!L..........+.!!!!ijk+.......s!!!.........", // f
+    *b"....!!!!.....X.....S!!!.............!!!!.........rZs!!!.........", // l
+    *b".l*.!!!!...........S!!!l..........+.!!!!...........s!!!.........", // n
+    *b"..*.!!!!........Q..S!!!...........+.!!!!...........s!!!.........", // r
+    *b"....!!!!...........S!!!.Y...........!!!!...........s!!!.........", // s
+    *b".P*.!!!!...........S!!!P..........+.!!!!...........s!!!.........", // t
+    *b"..H.!!!!.........R.S!!!...........h.!!!!....q......s!!!.........", // u
+    *b".<..!!!!...........S!!!<............!!!!...........s!!!.........", // {
+    *b"....!!!!.......-...S!!!...>........>!!!!......>....s!!!>..>.....", // }
+    *b".!!!T!!U!!!!!!!!!!!!STU!!!!.......!!t!!u!!!!!!!.!!!!stu!!!!.....", // 80 to 8F
+    *b".!!!T!U!!!!!!!!!!!!!STU!!!!.......!!t!u!!!!!!!!.!!!!stu!!!!.....", // 90 to 9F
+    *b".!!!!TU!!!!!!!!!!!!!STU!!!!.......!!!tu!!!!!!!!.!!!!stu!!!!.....", // A0 to BF
+    *b".!!!!!!!!!!!!!!!!!!!!!!!!!!.......!!!!!!!!!!!!!.!!!!!!!!!!!.....", // C0, C1, F5 to FF
+    *b"....!!!!...........T!!!.............!!!!...........t!!!.........", // C2 to DF
+    *b"....!!!!...........E!!!.............!!!!...........e!!!.........", // E0
+    *b"....!!!!...........U!!!.............!!!!...........u!!!.........", // E1 to EC, EE, EF
+    *b"....!!!!...........D!!!.............!!!!...........d!!!.........", // ED
+    *b"....!!!!...........F!!!.............!!!!...........f!!!.........", // F0
+    *b"....!!!!...........V!!!.............!!!!...........v!!!.........", // F1 to F3
+    *b"....!!!!...........G!!!.............!!!!...........g!!!.........", // F4
+];
+
+/// Where a run of states ends, and the entry that ended it.
+#[derive(Clone, Copy)]
+pub(crate) struct Stop {
+    pub state: u8,
+    pub at: usize,
+    pub entry: u8,
+}
+
+#[inline(always)]
+fn transition(state: u8, c: u8) -> u8
+    requires { is_state state ≡ true }
+    ensures state { 64 ≤ result → is_state result ≡ true }
+    ensures value { (k n : ℕ) (σ : List Bool) →
+        entered result (running k (coding_of state) (mode_of state) n σ) ≡ advance (running k (coding_of state) (mode_of state) n σ) c }
+{
+    TRANSITIONS[(CLASSES[c as usize] - b'0') as usize][state as usize - 64]
+}
+
+/// Goes from state to state until an entry asks for more, or the piece ends.
+#[inline(always)]
+pub(crate) fn follow(start: u8, piece: &[u8], from: usize) -> Stop
+    requires state { is_state start ≡ true }
+    requires within { from ≤ length piece.now }
+    ensures state { is_state result.state ≡ true }
+    ensures bounds { (from ≤ result.at) × (result.at ≤ length piece.now) }
+    ensures value { (k n : ℕ) (σ : List Bool) →
+        advances (running k (coding_of start) (mode_of start) n σ) (take (result.at - from) (drop from piece.now))
+        ≡ running (k + (result.at - from)) (coding_of result.state) (mode_of result.state) n σ }
+    ensures entry { result.at < length piece.now → result.entry < 64 }
+    ensures next { result.at < length piece.now → (k n : ℕ) (σ : List Bool) →
+        entered result.entry (running k (coding_of result.state) (mode_of result.state) n σ)
+        ≡ advance (running k (coding_of result.state) (mode_of result.state) n σ) (get_or piece.now result.at 0) }
+{
+    let mut state = start;
+    let mut at = from;
+    while at < piece.len() {
+        let entry = transition(state, piece[at]);
+        if entry < FIRST_STATE {
+            return Stop { state, at, entry };
+        }
+        state = entry;
+        at += 1;
+    }
+    Stop {
+        state,
+        at,
+        entry: b'.',
+    }
+}
