@@ -1,0 +1,6 @@
+pub mod Small
+pub mod Lengths
+pub mod FrameLaws
+pub mod Empty
+pub mod StepLaws
+pub mod ReaderLaws
