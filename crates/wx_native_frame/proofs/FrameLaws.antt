@@ -33,7 +33,7 @@ same_fault b c f h lt e = record {
   inside = lt;
   before = let P : List ℕ → Type 0 = IsPrefixOfJson in subst P (sym before) h.before;
   faulty = λ p. h.faulty (let P : List ℕ → Type 0 = IsPrefixOfJson in subst P e p);
-  kind = let P : List ℕ → Type 0 = λ x. IsOfKind f.kind x in subst P (sym e) h.kind
+  kind = let P : List ℕ → Type 0 = λ x. IsOfKind f.kind x in subst P (sym e) h.kind;
 }
   where
     before : take f.place c ≡ take f.place b
@@ -123,8 +123,10 @@ trouble_no_frame r limit f small h i t fr = no f h
   where
     text : text_in r ≡ t
     text = ap text_in (sym (take-append-drop i r)) ∙ frame-text_in limit (take i r) t (drop i r) small fr
+
     tells : told r ≡ length t
     tells = let long = frame-length limit (take i r) t fr in ap told (sym (take-append-drop i r)) ∙ told-append (take i r) (drop i r) (omega arith) ∙ frame-told limit (take i r) t small fr
+
     no : (g : FrameFault) → ¬ IsTrouble r limit g
     no (TooLong n) (too_long le is more) = let fits = fr.fits in omega (arith, tells)
     no (BadJson g) (bad_text le within k) = let P : List ℕ → Type 0 = λ y. IsFault y g in no_fault t g (whole_prefix t fr.json) (subst P text k)
@@ -136,7 +138,7 @@ trouble_no_frame r limit f small h i t fr = no f h
 pub short_under_way : (r : List ℕ) (limit : ℕ) → length r < 4 → IsUnderWay r limit
 short_under_way r limit short = record {
   no_trouble = λ f. short_no_trouble r limit f short;
-  no_frame = λ i t h. omega (arith, frame-length limit (take i r) t h, length-take i r)
+  no_frame = λ i t h. omega (arith, frame-length limit (take i r) t h, length-take i r);
 }
 
 pub text_under_way : (limit : ℕ) (head u : List ℕ) → limit < 2 ^ 32 → length head ≡ 4 → length u < told head → told head ≤ limit → IsPrefixOfJson u → IsUnderWay (head ++ u) limit
@@ -144,13 +146,16 @@ text_under_way limit head u small e short within p = record { no_trouble = none;
   where
     here : text_in (head ++ u) ≡ u
     here = text_in-append head u e ∙ take_all (told head) u (omega arith)
+
     tells : told (head ++ u) ≡ told head
     tells = told-append head u (omega arith)
+
     none : (f : FrameFault) → ¬ IsTrouble (head ++ u) limit f
     none (TooLong n) (too_long le is more) = omega (arith, tells)
     none (BadJson f) (bad_text le w h) = let P : List ℕ → Type 0 = λ x. IsFault x f in no_fault u f p (subst P here h)
     none (BadJson f) (cut_text le w all h) = omega (arith, tells, ap length here)
     none NoMemory h = elim h [ ]
+
     no_whole : (i : ℕ) (t : List ℕ) → ¬ IsFrame limit (take i (head ++ u)) t
     no_whole i t fr =
         let long = frame-length limit (take i (head ++ u)) t fr in

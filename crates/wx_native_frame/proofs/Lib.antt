@@ -4,3 +4,4 @@ pub mod FrameLaws
 pub mod Empty
 pub mod StepLaws
 pub mod ReaderLaws
+pub mod SplitLaws

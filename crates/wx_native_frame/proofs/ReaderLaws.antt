@@ -33,8 +33,9 @@ trouble_of a s e = some_of a.fault (λ f. IsTrouble (a.head ++ a.text.items) a.l
 
 pub under_way_of : (a : Inside) → IsSound a → is_some a.fault ≡ false → IsUnderWay (a.head ++ a.text.items) a.limit
 under_way_of a s e = elim (cases_lt (length a.head) 4) [
-    inl lt ↦ let none = (s.early lt).text in short_under_way (a.head ++ a.text.items) a.limit (omega (arith, length-append a.head a.text.items, ap length none))
-  | inr le ↦ let most = s.head in let four : length a.head ≡ 4 = omega arith in let i = s.inside four (none_of a.fault e) in text_under_way a.limit a.head a.text.items s.limit four i.short i.within i.reads.start ]
+  | inl lt ↦ let none = (s.early lt).text in short_under_way (a.head ++ a.text.items) a.limit (omega (arith, length-append a.head a.text.items, ap length none))
+  | inr le ↦ let most = s.head in let four : length a.head ≡ 4 = omega arith in let i = s.inside four (none_of a.fault e) in text_under_way a.limit a.head a.text.items s.limit four i.short i.within i.reads.start
+]
 
 pub wanted_of : (a : Inside) → IsSound a → is_some a.fault ≡ false → 4 ≤ length a.head → (told a.head - length a.text.items) + length (a.head ++ a.text.items) ≡ 4 + told (a.head ++ a.text.items)
 wanted_of a s e le =
@@ -54,8 +55,9 @@ reading a v s is le none = (s.inside four (none_given a.fault none), four)
   where
     four : length a.head ≡ 4
     four = elim (cases_lt (length a.head) 4) [
-        inl lt ↦ let empty = (s.early lt).text in absurd (omega (arith, length-append a.head a.text.items, ap length empty, ap (λ u. length u.bytes) is))
-      | inr more ↦ let most = s.head in omega arith ]
+      | inl lt ↦ let empty = (s.early lt).text in absurd (omega (arith, length-append a.head a.text.items, ap length empty, ap (λ u. length u.bytes) is))
+      | inr more ↦ let most = s.head in omega arith
+    ]
 
 pub read_fault : (a : Inside) (piece x : List ℕ) (used : ℕ) (f : JsonFault) → IsSound a → IsInside a → length a.head ≡ 4 → used ≡ min (told a.head - length a.text.items) (length piece) → IsFault (a.text.items ++ take used piece) f → x ≡ take (f.place + 1) (a.text.items ++ take used piece) → StopsAt a.limit (a.head ++ a.text.items) piece (BadJson f) (a.head ++ x)
 read_fault a piece x used f s i four is h e =
@@ -95,7 +97,7 @@ stopped b f small four is h = record {
   head = omega arith;
   early = λ lt. absurd (omega arith);
   inside = λ e none. cc;
-  broken = λ g e. same_trouble (b.head ++ b.text.items) b.limit f g (sym is ∙ e) h
+  broken = λ g e. same_trouble (b.head ++ b.text.items) b.limit f g (sym is ∙ e) h;
 }
 
 -- Within a length
@@ -112,6 +114,7 @@ head_goes_on a piece head used s lt is e short =
   where
     all : used ≡ length piece
     all = omega (arith, ap length e, length-append a.head (take used piece), length-take used piece)
+
     left : head ++ a.text.items ≡ (a.head ++ a.text.items) ++ piece
     left = ap (λ x. head ++ x) (s.early lt).text ∙ append-nil head ∙ e ∙ ap (λ x. a.head ++ x) (take_all used piece (omega (arith, all))) ∙ ap (λ x. x ++ piece) (sym (bytes_of_head a s lt))
 
@@ -134,9 +137,9 @@ fresh b small four none within some empty room stands count = record {
     within = within;
     short = omega (arith, ap length empty);
     room = room;
-    reads = let R : List ℕ → Type 0 = λ x. Reads b.check x in subst R (sym empty) (record { stands = stands; count = omega arith; start = empty_prefix })
+    reads = let R : List ℕ → Type 0 = λ x. Reads b.check x in subst R (sym empty) (record { stands = stands; count = omega arith; start = empty_prefix });
   };
-  broken = λ f e. cc
+  broken = λ f e. cc;
 }
 
 -- what a step did behind the length is what it did in all
@@ -164,5 +167,5 @@ map_some (Some t) P Q h p = h t p
 pub hands_on : (a : Inside) (v : Unfinished) (piece head text left : List ℕ) (o : Option (List ℕ)) (used more : ℕ) → IsSound a → unfinished_of a ≡ v → length a.head < 4 → used ≡ min (4 - length a.head) (length piece) → head ≡ a.head ++ take used piece → text ≡ [] → IfSome o (λ t. EndsFrame a.limit (head ++ text) (take (length piece - used) (drop used piece)) more t × (left ≡ [])) → IfSome o (λ t. EndsFrame v.limit v.bytes piece (used + more) t × (left ≡ []))
 hands_on a v piece head text left o used more s is lt n e empty h =
     map_some o (λ t. EndsFrame a.limit (head ++ text) (take (length piece - used) (drop used piece)) more t × (left ≡ [])) (λ t. EndsFrame v.limit v.bytes piece (used + more) t × (left ≡ [])) (λ t p.
-      let V : Unfinished → Type 0 = λ w. EndsFrame w.limit w.bytes piece (used + more) t in
-      (subst V is (head_ends a piece head text t used more s lt n e empty p.0), p.1)) h
+    let V : Unfinished → Type 0 = λ w. EndsFrame w.limit w.bytes piece (used + more) t in
+    (subst V is (head_ends a piece head text t used more s lt n e empty p.0), p.1)) h

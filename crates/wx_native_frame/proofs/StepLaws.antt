@@ -45,7 +45,7 @@ pub text_goes_on : (limit : ℕ) (head u piece : List ℕ) (used : ℕ) → limi
 text_goes_on limit head u piece used small four within is short good = record {
   all = all;
   left_is = sym (append_assoc head u (take used piece)) ∙ ap (λ x. (head ++ u) ++ x) (take_all used piece (omega (arith, all)));
-  under_way = text_under_way limit head (u ++ take used piece) small four short within good
+  under_way = text_under_way limit head (u ++ take used piece) small four short within good;
 }
   where
     all : used ≡ length piece
@@ -95,14 +95,19 @@ text_stops limit head u piece used f small four within short is good h =
   where
     x : List ℕ
     x = u ++ take used piece
+
     le : length u ≤ f.place
     le = fault_behind u (take used piece) f good h
+
     inside : f.place < length u + used
     inside = let i = h.inside in omega (arith, length-append u (take used piece), length-take used piece)
+
     upto : ℕ
     upto = f.place + 1 - length u
+
     on : f.place + 1 ≡ length u + upto
     on = omega (arith, le)
+
     left : head ++ take (f.place + 1) x ≡ (head ++ u) ++ take upto piece
     left = ap (λ n. head ++ take n x) on ∙ ap (λ y. head ++ y) (front_is u piece used upto (omega (arith, inside, on))) ∙ sym (append_assoc head u (take upto piece))
 
@@ -118,8 +123,10 @@ text_cut limit head u piece used f small four within le all good h =
   where
     x : List ℕ
     x = u ++ take used piece
+
     long : length x ≡ length u + used
     long = omega (arith, length-append u (take used piece), length-take used piece)
+
     trouble : IsTrouble (head ++ x) limit (BadJson f)
     trouble = elim (end_fault_cases f.kind x f h) [ inl k ↦ text_trouble limit head x f four within (omega arith) k | inr k ↦ cut_trouble limit head x f four within all k ]
 
@@ -140,13 +147,14 @@ stops_behind limit bytes piece left k f le four h = record {
   upto = k + h.upto;
   left_is = h.left_is ∙ append_take-add bytes piece k h.upto;
   kept = h.kept;
-  least = least
+  least = least;
 }
   where
     least : (i : ℕ) (g : FrameFault) → i < k + h.upto → ¬ IsTrouble (bytes ++ take i piece) limit g
     least i g lt t = elim (cases_lt i k) [
-        inl early ↦ short_no_trouble (bytes ++ take i piece) limit g (omega (arith, length-append bytes (take i piece), length-take i piece)) t
+      | inl early ↦ short_no_trouble (bytes ++ take i piece) limit g (omega (arith, length-append bytes (take i piece), length-take i piece)) t
       | inr late ↦
-        let on : k + (i - k) ≡ i = omega arith in
-        let P : List ℕ → Type 0 = λ x. IsTrouble x limit g in
-        h.least (i - k) g (omega arith) (subst P (sym (append_take-add bytes piece k (i - k) ∙ ap (λ n. bytes ++ take n piece) on)) t) ]
+          let on : k + (i - k) ≡ i = omega arith in
+          let P : List ℕ → Type 0 = λ x. IsTrouble x limit g in
+          h.least (i - k) g (omega arith) (subst P (sym (append_take-add bytes piece k (i - k) ∙ ap (λ n. bytes ++ take n piece) on)) t)
+    ]

@@ -6,11 +6,14 @@ ghost use Rattle.wx_native_frame.specs.Frames.{length_bytes, frame};
 
 mod frame_reader;
 mod head;
+mod laws;
+#[cfg(test)]
+mod tests;
 mod text;
 
-pub use frame_reader::FrameReader;
-
 use byteorder::{ByteOrder, LittleEndian};
+pub use frame_reader::FrameReader;
+pub use laws::{one_answer, one_split};
 use wx_id::NoMemory;
 use wx_json::{JsonFault, JsonText};
 

@@ -9,7 +9,11 @@ use std::mem;
 use wx_json::{JsonCheck, JsonFault, JsonText};
 
 /// Takes the next part of a text, or as much of it as ends with its faulty byte. There is room for it.
-pub(crate) fn read_on(text: &mut Vec<u8>, check: &mut JsonCheck, part: &[u8]) -> Result<(), JsonFault>
+pub(crate) fn read_on(
+    text: &mut Vec<u8>,
+    check: &mut JsonCheck,
+    part: &[u8],
+) -> Result<(), JsonFault>
     requires reads { Reads check.old text.old.items }
     requires room { vec_len text.old + length part.now ≤ vec_capacity text.old }
     requires size { vec_len text.old + length part.now < 2 ^ 63 }
@@ -29,7 +33,11 @@ pub(crate) fn read_on(text: &mut Vec<u8>, check: &mut JsonCheck, part: &[u8]) ->
 }
 
 /// Takes the whole text out, or leaves it with the fault that it ends too early.
-pub(crate) fn take_whole(alloc: Global, text: &mut Vec<u8>, check: &JsonCheck) -> Result<JsonText, JsonFault>
+pub(crate) fn take_whole(
+    alloc: Global,
+    text: &mut Vec<u8>,
+    check: &JsonCheck,
+) -> Result<JsonText, JsonFault>
     requires { Stands check.now text.old.items }
     ensures ok { IfOk result (λ whole. (whole ≡ text.old.items) × IsJsonText text.old.items) }
     ensures taken { OnOk result (text.new.items ≡ []) }

@@ -6,5 +6,5 @@ invariant-loop-byte l = record {
   at : l.at ≡ l.len + l.byte-index;
   bytes : take l.at l.bytes ≡ take l.len l.fn.bytes ++ take l.byte-index l.more;
   size : length l.bytes ≡ 4;
-  small : (i : ℕ) → slice_index l.bytes i < 256
+  small : (i : ℕ) → slice_index l.bytes i < 256;
 }
