@@ -34,6 +34,7 @@ fn feed_bytes(
 }
 
 /// What a stream gives: its texts, each with a bar behind it, the fault that ends it, and the bytes in hand then.
+#[derive(Drop)]
 struct Want<'a> {
     texts: &'a [u8],
     end: Result<(), FrameFault>,
@@ -188,12 +189,9 @@ fn bytes_behind_a_frame_stay(rt: HostRuntime) -> Result<(), Fail> {
 #[test]
 fn longest_text(rt: HostRuntime) -> Result<(), Fail> {
     let alloc = rt.alloc();
-    let mut text = Vec::with_capacity(alloc, 1_048_576)?;
-    text.push(b'"')?;
-    for _ in 0..1_048_574 {
-        text.push(b'a')?;
-    }
-    text.push(b'"')?;
+    let mut text = vec![in alloc; b'a'; 1_048_576]?;
+    text[0] = b'"';
+    text[1_048_575] = b'"';
     let Ok(json) = JsonText::new(text) else {
         assert!(rt; false);
         return Ok(());
@@ -227,7 +225,7 @@ fn frame_of_a_text(rt: HostRuntime) -> Result<(), Fail> {
             Ok(text) => assert!(rt; frame_into(&text, &mut out).is_ok()),
             Err(_) => assert!(rt; false),
         }
-        assert!(rt; &out == want);
+        assert!(rt; out.as_slice() == want);
     }
     Ok(())
 }
