@@ -1,16 +1,14 @@
 -- Frames, what is under way, and trouble.
-use Rattle.std.proofs.Common.{◌≡◌, ℕ, ◌+◌, ◌<◌, ◌≤◌, ◌^◌, List, [], ◌++◌, length, take, drop, min, refl, ap, ◌∙◌, sym, subst, arith, inl, inr, append_assoc, length-append, take-append-drop}
-use Rattle.std.specs.Prelude.{◌⊎◌}
+use Rattle.std.proofs.Common.{◌≡◌, ℕ, ◌+◌, ◌<◌, ◌≤◌, ◌^◌, List, [], ◌++◌, length, take, drop, refl, ap, ◌∙◌, sym, subst, arith, inl, inr, append_assoc, length-append, take-append-drop}
 use Rattle.std.proofs.lemmas.List.{take-append-le, take-take, take_all, length-take, append-nil}
-use Rattle.std.proofs.Math.Seq.{take-append-add}
 use Rattle.std.proofs.lemmas.Bool.{cases_lt}
 use Rattle.wx_json.specs.Text.{IsJsonText, IsPrefixOfJson, IsOfKind, IsFault, IsUnfinished}
 use Rattle.wx_json.specs.declared.JsonFault.{JsonFault}
-use Rattle.wx_native_frame.specs.Frames.{frame, IsFrame, length_bytes, told, text_in, IsTrouble, IsUnderWay, EndsFrame, StopsAt}
+use Rattle.wx_native_frame.specs.Frames.{IsFrame, length_bytes, told, text_in, IsTrouble, IsUnderWay}
 use Rattle.wx_native_frame.specs.Frames.{too_long, bad_text, cut_text}
 use Rattle.wx_native_frame.specs.declared.FrameFault.{FrameFault}
 use Rattle.wx_native_frame.specs.declared.FrameFault.TheVariants.{TooLong, BadJson, NoMemory}
-use Rattle.wx_native_frame.proofs.Lengths.{length-length_bytes, told-append, told-length_bytes, drop_seam, take_seam, text_in-append, append_take-add, append_take-drop, take_reach}
+use Rattle.wx_native_frame.proofs.Lengths.{length-length_bytes, told-append, told-length_bytes, drop_seam, take_seam, text_in-append}
 
 -- JSON texts and their faults
 

@@ -1,8 +1,7 @@
 -- The four bytes of a length, and parts of lists.
-use Rattle.std.proofs.Common.{◌≡◌, ℕ, ◌+◌, ◌-◌, ◌<◌, ◌≤◌, ◌^◌, List, [], ◌++◌, length, take, drop, get_or, min, refl, ap, ◌∙◌, sym, arith, append_assoc, length-append, take-append-drop, w32}
-use Rattle.std.specs.Int.{from_le_bytes}
+use Rattle.std.proofs.Common.{◌≡◌, ℕ, ◌+◌, ◌-◌, ◌<◌, ◌≤◌, ◌^◌, List, ◌++◌, length, take, drop, get_or, min, ap, ◌∙◌, sym, arith, append_assoc, take-append-drop}
 use Rattle.std.proofs.lemmas.Nat.{le_bytes_4}
-use Rattle.std.proofs.lemmas.List.{take-append-le, take-take, take_all, take_min, length-take, drop-take}
+use Rattle.std.proofs.lemmas.List.{take-take, take_min, drop-take}
 use Rattle.std.proofs.Math.Seq.{take-append_seam, take-append-add, drop-append_seam}
 use Rattle.byteorder.specs.Numbers.{little_from-append, little_number-reads_back, length-bytes_low_first}
 use Rattle.wx_native_frame.specs.Frames.{length_bytes, told, text_in}

@@ -1,12 +1,11 @@
 -- A stream has one split, and steps make it.
-use Rattle.std.proofs.Common.{◌≡◌, ℕ, ◌+◌, ◌<◌, ◌≤◌, ◌^◌, List, [], ◌∷◌, ◌++◌, length, take, drop, refl, ap, ◌∙◌, sym, subst, arith, inl, inr, append_assoc, length-append, take-append-drop}
-use Rattle.std.specs.Prelude.{◌⊎◌}
+use Rattle.std.proofs.Common.{◌≡◌, ℕ, ◌<◌, ◌≤◌, ◌^◌, List, [], ◌∷◌, ◌++◌, length, take, drop, refl, ap, ◌∙◌, sym, subst, arith, inl, inr, append_assoc}
 use Rattle.std.proofs.lemmas.Bool.{cases_lt}
 use Rattle.std.proofs.lemmas.List.{append-nil}
 use Rattle.wx_json.specs.Text.{IsJsonText, IsFault, IsUnfinished}
 use Rattle.wx_json.specs.declared.JsonFault.{JsonFault}
 use Rattle.wx_json.specs.declared.JsonKind.{JsonKind}
-use Rattle.wx_native_frame.specs.Frames.{frame, IsFrame, told, text_in, IsTrouble, EndsFrame}
+use Rattle.wx_native_frame.specs.Frames.{frame, IsFrame, text_in, IsTrouble, EndsFrame}
 use Rattle.wx_native_frame.specs.Frames.{too_long, bad_text, cut_text}
 use Rattle.wx_native_frame.specs.Splits.{frames, AllFit, IsSplit}
 use Rattle.wx_native_frame.specs.declared.FrameFault.{FrameFault}

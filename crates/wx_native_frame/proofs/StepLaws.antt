@@ -1,7 +1,7 @@
 -- What a step may answer.
-use Rattle.std.proofs.Common.{◌≡◌, ℕ, ◌+◌, ◌-◌, ◌<◌, ◌≤◌, ◌^◌, List, [], ◌++◌, length, take, drop, min, refl, ap, ◌∙◌, sym, subst, arith, inl, inr, append_assoc, length-append, length-drop, take-append-drop}
+use Rattle.std.proofs.Common.{◌≡◌, ℕ, ◌+◌, ◌-◌, ◌<◌, ◌≤◌, ◌^◌, List, ◌++◌, length, take, drop, min, refl, ap, ◌∙◌, sym, subst, arith, inl, inr, append_assoc, length-append, length-drop}
 use Rattle.std.specs.Prelude.{◌⊎◌}
-use Rattle.std.proofs.lemmas.List.{take-append-le, take-take, take_all, length-take, append-nil}
+use Rattle.std.proofs.lemmas.List.{take-take, take_all, length-take, append-nil}
 use Rattle.std.proofs.Math.Seq.{take-append-add}
 use Rattle.std.proofs.lemmas.Bool.{cases_lt}
 use Rattle.wx_json.specs.Text.{IsJsonText, IsPrefixOfJson, IsFault, IsUnfinished, IsFaultOrEnd, IsEndFault}
@@ -13,7 +13,7 @@ use Rattle.wx_native_frame.specs.Frames.{bad_text, cut_text}
 use Rattle.wx_native_frame.specs.declared.FrameFault.{FrameFault}
 use Rattle.wx_native_frame.specs.declared.FrameFault.TheVariants.{BadJson, NoMemory}
 use Rattle.wx_native_frame.proofs.Lengths.{told-append, text_in-append, append_take-add, append_take-drop}
-use Rattle.wx_native_frame.proofs.FrameLaws.{take_prefix, cut_fault, fault_behind, frame-length, one_length, short_no_trouble, no_memory_no_trouble, trouble-append, short_under_way, text_under_way}
+use Rattle.wx_native_frame.proofs.FrameLaws.{take_prefix, cut_fault, fault_behind, one_length, short_no_trouble, no_memory_no_trouble, trouble-append, short_under_way, text_under_way}
 
 -- A frame ends
 

@@ -1,5 +1,5 @@
 -- Frames: the length of a JSON text in four bytes, the lowest first, and the text.
-use Rattle.std.specs.Prelude.{◌≡◌, ℕ, ◌+◌, ◌<◌, ◌≤◌, List, ◌++◌, length, take, drop}
+use Rattle.std.specs.Prelude.{◌≡◌, ℕ, ◌<◌, ◌≤◌, List, ◌++◌, length, take, drop}
 use Rattle.byteorder.specs.Endian.{little_bytes, little_number}
 use Rattle.wx_json.specs.Text.{IsJsonText, IsFault, IsUnfinished}
 use Rattle.wx_json.specs.declared.JsonFault.{JsonFault}

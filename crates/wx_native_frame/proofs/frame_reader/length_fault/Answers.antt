@@ -1,4 +1,4 @@
-use Rattle.std.proofs.Common.{◌≡◌, ◌∙◌, sym}
+use Rattle.std.proofs.Common.{◌∙◌, sym}
 use Rattle.wx_native_frame.specs.Frames.{too_long}
 use Rattle.wx_native_frame.proofs.Empty.{empty_trouble}
 use Rattle.wx_native_frame.proofs.frame_reader.length_fault.Goals as goal

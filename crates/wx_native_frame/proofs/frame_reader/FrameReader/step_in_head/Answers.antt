@@ -1,6 +1,6 @@
-use Rattle.std.proofs.Common.{◌≡◌, ℕ, ◌+◌, ◌-◌, ◌∙◌, ◌++◌, sym, ap, subst, arith, length, Some, None, Option}
+use Rattle.std.proofs.Common.{◌∙◌, ◌++◌, sym, ap, subst, arith}
 use Rattle.std.proofs.lemmas.Result.{err_from_is_err_and}
-use Rattle.wx_native_frame.specs.Frames.{Unfinished, told, StopsAt}
+use Rattle.wx_native_frame.specs.Frames.{Unfinished, StopsAt}
 use Rattle.wx_native_frame.proofs.ReaderLaws.{early_head, head_goes_on, head_refuses, fresh, head_stops_behind, hands_on}
 use Rattle.wx_native_frame.proofs.frame_reader.FrameReader.step_in_head.Goals as goal
 

@@ -1,5 +1,5 @@
-use Rattle.std.proofs.Common.{◌≡◌, ℕ, ◌-◌, ◌∙◌, ◌++◌, min, refl, ap, sym, subst, arith, length}
-use Rattle.wx_native_frame.specs.Frames.{Unfinished, length_bytes, told, StopsAt, EndsFrame}
+use Rattle.std.proofs.Common.{◌∙◌, ◌++◌, refl, ap, sym, subst, arith}
+use Rattle.wx_native_frame.specs.Frames.{Unfinished, length_bytes, StopsAt, EndsFrame}
 use Rattle.wx_native_frame.specs.declared.FrameFault.TheVariants.{BadJson}
 use Rattle.wx_native_frame.proofs.StepLaws.{stops_already}
 use Rattle.wx_native_frame.proofs.ReaderLaws.{reading, read_fault, reads_on, reads_whole, reads_cut, stopped}
