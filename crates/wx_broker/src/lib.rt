@@ -4,5 +4,7 @@
 mod answers;
 mod broker;
 mod carried;
+#[cfg(test)]
+mod tests;
 
 pub use broker::Broker;

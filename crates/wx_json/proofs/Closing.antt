@@ -1,5 +1,5 @@
 -- The end of a container, and a comma, at a check's fields.
-use Rattle.std.proofs.Common.{◌≡◌, ℕ, suc, ◌+◌, ◌-◌, ◌≤◌, List, [], ◌∷◌, Bool, true, false, refl, ap, ◌∙◌, sym, arith, add-one}
+use Rattle.std.proofs.Common.{◌≡◌, ℕ, suc, ◌+◌, ◌-◌, ◌≤◌, List, Bool, true, false, refl, arith, add-one}
 use Rattle.wx_json.specs.Mode.{Mode}
 use Rattle.wx_json.specs.Coding.{Coding}
 use Rattle.wx_json.specs.States.{mode_of, coding_of, went, closed_empty, closed, separated}
@@ -21,10 +21,12 @@ module _ (words : List ℕ) (depth k : ℕ) (u : Coding) (m : Mode) (some : dept
   closed-fields true kind = rw (add-one k, kinds_top words depth some, kind, room) refl
   closed-fields false kind = rw (add-one k, kinds_top words depth some, kind, room) refl
 
-  pub separated-name : kind_of words (depth - 1) ≡ true → went 0x4E (running k u m (1024 - depth) (kinds_of words depth)) ≡ separated (running k u m (1024 - depth) (kinds_of words depth))
+-- a comma in the innermost container
+module _ (words : List ℕ) (depth k n : ℕ) (u : Coding) (m : Mode) (some : depth ≡ 0 → ⊥) where
+  pub separated-name : kind_of words (depth - 1) ≡ true → separated (running k u m n (kinds_of words depth)) ≡ went 0x4E (running k u m n (kinds_of words depth))
   unfolding mode_of coding_of
   separated-name kind = rw (kinds_top words depth some, kind) refl
 
-  pub separated-value : kind_of words (depth - 1) ≡ false → went 0x57 (running k u m (1024 - depth) (kinds_of words depth)) ≡ separated (running k u m (1024 - depth) (kinds_of words depth))
+  pub separated-value : kind_of words (depth - 1) ≡ false → separated (running k u m n (kinds_of words depth)) ≡ went 0x57 (running k u m n (kinds_of words depth))
   unfolding mode_of coding_of
   separated-value kind = rw (kinds_top words depth some, kind) refl

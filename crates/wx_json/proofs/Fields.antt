@@ -1,5 +1,5 @@
 -- A step of a check, from its fields to what it stands for.
-use Rattle.std.proofs.Common.{◌≡◌, refl, ap, ◌∙◌, sym, subst}
+use Rattle.std.proofs.Common.{◌≡◌, ap, ◌∙◌, sym, subst}
 use Rattle.std.specs.Prelude.{Option, Some, None}
 use Rattle.wx_json.specs.View.{unless_failed}
 use Rattle.wx_json.specs.Check.{Progress, failed, IsRunning}

@@ -16,8 +16,10 @@ pub mod Table
 pub mod Parts
 pub mod Closing
 pub mod Ends
+pub mod Leading
 pub mod OneFault
 pub mod Vectors
 pub mod Lanes
-pub mod Runs
+pub mod MaskedRuns
 pub mod PlainRuns
+pub mod WhiteRuns

@@ -1,11 +1,8 @@
 -- A piece is taken part by part.
-use Rattle.std.proofs.Common.{◌≡◌, ℕ, ◌+◌, ◌-◌, ◌<◌, ◌≤◌, List, [], ◌∷◌, length, take, drop, get_or, Bool, true, refl, ap, ◌∙◌, sym, subst, arith}
-use Rattle.std.specs.Prelude.{nat_le}
+use Rattle.std.proofs.Common.{◌≡◌, ℕ, ◌+◌, ◌-◌, ◌<◌, ◌≤◌, List, [], ◌∷◌, length, take, drop, get_or, refl, ap, ◌∙◌, sym, arith}
 use Rattle.std.proofs.lemmas.Bool.{le-leb}
-use Rattle.wx_json.specs.Mode.{Mode}
-use Rattle.wx_json.specs.Coding.{Coding}
-use Rattle.wx_json.specs.States.{is_state, mode_of, coding_of, went, entered}
-use Rattle.wx_json.specs.Check.{Progress, running, failed, advance, advances, IsRunning}
+use Rattle.wx_json.specs.States.{went, entered}
+use Rattle.wx_json.specs.Check.{Progress, failed, advance, advances}
 use Rattle.wx_json.specs.declared.JsonFault.{JsonFault}
 use Rattle.wx_json.proofs.Laws.{run-joined, run-more}
 use Rattle.std.proofs.lemmas.List.{length-drop, drop-drop, get_or-drop}

@@ -1,5 +1,5 @@
 -- Plain bytes leave a check inside a string where it is.
-use Rattle.std.proofs.Common.{◌≡◌, ◌≢◌, ℕ, suc, ◌+◌, ◌<◌, ◌≤◌, List, [], ◌∷◌, take, Bool, true, false, not, refl, ap, ◌∙◌, sym, arith, add-zero, inl, inr}
+use Rattle.std.proofs.Common.{◌≡◌, ◌≢◌, ℕ, zero, suc, ◌+◌, ◌<◌, ◌≤◌, List, [], ◌∷◌, take, Bool, true, false, not, refl, ap, ◌∙◌, sym, arith, add-zero, inl, inr}
 use Rattle.std.specs.Prelude.{◌==◌, ◌||◌, ◌&&◌, nat_lt, nat_le, cond}
 use Rattle.std.specs.List.{prefix_len}
 use Rattle.std.proofs.lemmas.Bool.{le-leb, eqb-false, leb-false, cases_lt}
@@ -11,7 +11,7 @@ use Rattle.wx_json.specs.Coding.{whole}
 use Rattle.wx_json.specs.Mode.{Mode}
 use Rattle.wx_json.specs.Coding.{Coding}
 use Rattle.wx_json.specs.Mode.{text}
-use Rattle.wx_json.specs.Check.{Progress, running, advance, advances}
+use Rattle.wx_json.specs.Check.{running, advance, advances}
 
 none_of : (a b : Bool) → not (a || b) ≡ true → (a ≡ false) × (b ≡ false)
 none_of true b h = cc
@@ -64,24 +64,19 @@ plain-advance k c n j σ h =
     let p = plain c h in
     rw (between 0x00 0x7F c (omega arith) (omega (arith, p.low)), unescaped c p) refl
 
-plain-more : (x : ℕ) (xs : List ℕ) (k n : ℕ) (j : Bool) (σ : List Bool)
-    → advances (running (suc k) whole (text j) n σ) (take (prefix_len is_plain xs) xs) ≡ running (suc k + prefix_len is_plain xs) whole (text j) n σ
-    → (b : Bool) → is_plain x ≡ b
-    → advances (running k whole (text j) n σ) (take (cond b (1 + prefix_len is_plain xs) 0) (x ∷ xs)) ≡ running (k + cond b (1 + prefix_len is_plain xs) 0) whole (text j) n σ
-plain-more x xs k n j σ rest false h = ap (λ i. running i whole (text j) n σ) (sym (add-zero k))
-plain-more x xs k n j σ rest true h =
-    let e : 1 + prefix_len is_plain xs ≡ suc (prefix_len is_plain xs) = omega arith in
-    let f : suc k + prefix_len is_plain xs ≡ k + (1 + prefix_len is_plain xs) = omega arith in
-    ap (λ i. advances (running k whole (text j) n σ) (take i (x ∷ xs))) e
-    ∙ ap (λ p. advances p (take (prefix_len is_plain xs) xs)) (plain-advance k x n j σ h)
-    ∙ rest ∙ ap (λ i. running i whole (text j) n σ) f
+-- bytes that pass a test leave a place as it is
+module _ (q : ℕ → Bool) (u : Coding) (m : Mode) (stays : (c : ℕ) → q c ≡ true → (k n : ℕ) (σ : List Bool) → advance (running k u m n σ) c ≡ running (suc k) u m n σ) where
+  pub run-same : (xs : List ℕ) (i k n : ℕ) (σ : List Bool) → i ≤ prefix_len q xs → advances (running k u m n σ) (take i xs) ≡ running (k + i) u m n σ
+  run-same xs zero k n σ h = ap (λ i. running i u m n σ) (sym (add-zero k))
+  run-same [] (suc i) k n σ h = absurd (omega arith)
+  run-same (x ∷ xs) (suc i) k n σ h = by_test (q x) refl h (run-same xs i (suc k) n σ)
+    where
+      by_test : (b : Bool) → q x ≡ b → suc i ≤ cond b (1 + prefix_len q xs) 0 → (i ≤ prefix_len q xs → advances (running (suc k) u m n σ) (take i xs) ≡ running (suc k + i) u m n σ)
+          → advances (running k u m n σ) (take (suc i) (x ∷ xs)) ≡ running (k + suc i) u m n σ
+      by_test false e le rest = absurd (omega arith)
+      by_test true e le rest =
+          let sum : suc k + i ≡ k + suc i = omega arith in
+          ap (λ p. advances p (take i xs)) (stays x e k n σ) ∙ rest (omega arith) ∙ ap (λ k. running k u m n σ) sum
 
-pub run-plain : (xs : List ℕ) (k n : ℕ) (j : Bool) (σ : List Bool)
-    → advances (running k whole (text j) n σ) (take (prefix_len is_plain xs) xs) ≡ running (k + prefix_len is_plain xs) whole (text j) n σ
-run-plain [] k n j σ = ap (λ i. running i whole (text j) n σ) (sym (add-zero k))
-run-plain (x ∷ xs) k n j σ = plain-more x xs k n j σ (run-plain xs (suc k) n j σ) (is_plain x) refl
-
--- the same, where the places are known by equations
-pub skipped : (xs : List ℕ) (k n i : ℕ) (u : Coding) (m : Mode) (j : Bool) (σ : List Bool) → u ≡ whole → m ≡ text j → i ≡ prefix_len is_plain xs
-    → advances (running k u m n σ) (take i xs) ≡ running (k + i) u m n σ
-skipped xs k n i u m j σ coding mode long = rw (coding, mode, long) (run-plain xs k n j σ)
+pub run-plain : (j : Bool) (xs : List ℕ) (i k n : ℕ) (σ : List Bool) → i ≤ prefix_len is_plain xs → advances (running k whole (text j) n σ) (take i xs) ≡ running (k + i) whole (text j) n σ
+run-plain j = run-same is_plain whole (text j) (λ c h k n σ. plain-advance k c n j σ h)

@@ -1,10 +1,9 @@
 -- A table is held to the two automata at each state and byte, by a test that computes.
-use Rattle.std.proofs.Common.{◌≡◌, ℕ, zero, suc, ◌+◌, ◌-◌, ◌<◌, ◌≤◌, List, [], ◌∷◌, length, get_or, Bool, true, false, not, refl, ap, ◌∙◌, sym, subst, arith, lit<, inl, inr}
+use Rattle.std.proofs.Common.{◌≡◌, ℕ, zero, suc, ◌+◌, ◌-◌, ◌<◌, ◌≤◌, List, [], ◌∷◌, length, get_or, Bool, true, false, refl, ap, ◌∙◌, sym, subst, arith, lit<, inl, inr}
 use Rattle.std.specs.Prelude.{◌==◌, ◌&&◌, nat_le, nat_lt, cond}
-use Rattle.std.proofs.lemmas.Bool.{eqb-true, eqb-false, and_parts, or_cases, leb-true, le-leb, ltb-true, ne_eqb, cond-true, agree_below, agree_below_at}
+use Rattle.std.proofs.lemmas.Bool.{eqb-true, and_parts, or_cases, leb-true, le-leb, ltb-true, ne_eqb, cond-true, agree_below, agree_below_at}
 use Rattle.wx_json.specs.Mode.{Mode, value, array_start, object_start, key, colon, after, text, escape, hex, minus, zero_digit, digits, point, decimals, e, e_sign, power, t1, t2, t3, f1, f2, f3, f4, n1, n2, n3}
 use Rattle.wx_json.specs.Coding.{Coding, whole, wants, broken, code}
-use Rattle.wx_json.specs.Machine.{next}
 use Rattle.wx_json.specs.Action.{Action, goes, opens_array, opens_object, closes_empty, closes_array, closes_object, separates, fails, action_of, perform}
 use Rattle.wx_json.specs.Check.{Progress, running, coded, advance}
 use Rattle.wx_json.specs.States.{is_state, mode_of, coding_of, went, entered}

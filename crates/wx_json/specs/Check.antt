@@ -1,6 +1,6 @@
 -- What a check keeps of the bytes that it was given.
 use Rattle.std.specs.Prelude.{◌≡◌, ℕ, suc, List, [], ◌∷◌, Bool, true, false}
-use Rattle.wx_json.specs.Machine.{State, dead, at, next, accepts_at}
+use Rattle.wx_json.specs.Machine.{State, dead, at, next}
 use Rattle.wx_json.specs.Coding.{code}
 use Rattle.wx_json.specs.Mode.{Mode}
 use Rattle.wx_json.specs.Mode.{value}
@@ -9,20 +9,25 @@ use Rattle.wx_json.specs.Coding.{whole, wants, broken}
 use Rattle.wx_json.specs.declared.JsonKind.TheVariants.{Syntax, Utf8, TooDeep}
 use Rattle.wx_json.specs.declared.JsonFault.{JsonFault}
 
+-- How far it is: how many bytes it has taken, where both automata stand, how many levels may still be opened, and the open
+-- containers, the innermost first; or the fault that it found.
 pub data Progress : Type 0 where
   running : ℕ → Coding → Mode → ℕ → List Bool → Progress
   failed : JsonFault → Progress
 
+-- behind a byte that leads the grammar's automaton there, and that of UTF-8 to u
 abbrev pub moved : ℕ → Coding → State → Progress
 moved k u (dead true) = failed (record { place = k; kind = TooDeep })
 moved k u (dead false) = failed (record { place = k; kind = Syntax })
 moved k u (at m n σ) = running (suc k) u m n σ
 
+-- the same, where the byte may be at fault in UTF-8, which comes first
 abbrev pub coded : ℕ → Coding → State → Progress
 coded k whole s = moved k whole s
 coded k (wants low high n) s = moved k (wants low high n) s
 coded k broken s = failed (record { place = k; kind = Utf8 })
 
+-- one more byte, and more bytes
 abbrev pub advance : Progress → ℕ → Progress
 advance (running k u m n σ) c = coded k (code u c) (next m n σ c)
 advance (failed f) c = failed f
@@ -43,11 +48,6 @@ taken (failed f) = f.place
 abbrev pub IsRunning : Progress → Type 0
 IsRunning (running k u m n σ) = Unit {0}
 IsRunning (failed f) = ⊥
-
--- all bytes make a text of the grammar, if they are UTF-8
-abbrev pub IsComplete : Progress → Type 0
-IsComplete (running k u m n σ) = accepts_at m σ ≡ true
-IsComplete (failed f) = ⊥
 
 -- The check was given these bytes in all.
 unfoldable pub Stands : Progress → List ℕ → Type 0

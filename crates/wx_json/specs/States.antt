@@ -1,10 +1,10 @@
 -- The states of the table in src/transitions.rt, and what each of its entries does. Private contracts alone cite this.
-use Rattle.std.specs.Prelude.{ℕ, suc, ◌-◌, List, [], ◌∷◌, Bool, true, false, ◌==◌, ◌||◌, cond, nat_le, get_or}
+use Rattle.std.specs.Prelude.{ℕ, suc, ◌+◌, ◌-◌, ◌≡◌, ◌≤◌, List, [], ◌∷◌, Bool, true, false, ◌==◌, ◌||◌, cond, nat_le, get_or}
 use Rattle.wx_json.specs.Json.{is_between}
 use Rattle.wx_json.specs.Mode.{Mode, value, array_start, object_start, key, colon, after, text, escape, hex, minus, zero_digit, digits, point, decimals, e, e_sign, power, t1, t2, t3, f1, f2, f3, f4, n1, n2, n3}
 use Rattle.wx_json.specs.Coding.{Coding, whole, wants}
 use Rattle.wx_json.specs.Machine.{push, pop, pop_array, pop_object, comma}
-use Rattle.wx_json.specs.Check.{Progress, running, failed, moved}
+use Rattle.wx_json.specs.Check.{Progress, running, failed, moved, advance, advances}
 use Rattle.wx_json.specs.declared.JsonKind.{JsonKind}
 use Rattle.wx_json.specs.declared.JsonKind.TheVariants.{Syntax, Utf8}
 
@@ -39,6 +39,10 @@ coding_of s =
 -- the states in a string, between two characters
 abbrev pub is_in_string : ℕ → Bool
 is_in_string s = s == 0x73 || s == 0x53
+
+-- the states behind a bracket that opens and behind a comma, where white space changes nothing
+abbrev pub is_between_values : ℕ → Bool
+is_between_values s = s == 0x41 || s == 0x4F || s == 0x57 || s == 0x4E
 
 -- the states where a text may end, outside of all containers
 abbrev pub is_end : ℕ → Bool
@@ -88,3 +92,22 @@ entered x p =
     (cond (x == 0x3E) (closed true p)
     (cond (x == 0x21) (refused Utf8 p)
     (refused Syntax p))))))))))
+
+-- the state to which an entry leads that asks for no more than that, or 0
+abbrev pub next_of : ℕ → ℕ → ℕ
+next_of x after_comma = cond (x == 0x2B) 0x73 (cond (x == 0x2A) 0x53 (cond (x == 0x2C) after_comma 0))
+
+-- These bytes, so many, lead from one state to another, with these containers open; with any.
+abbrev pub LeadsAt : List Bool → ℕ → ℕ → List ℕ → ℕ → Type 0
+LeadsAt σ from to bytes count = (k n : ℕ) → advances (running k (coding_of from) (mode_of from) n σ) bytes ≡ running (k + count) (coding_of to) (mode_of to) n σ
+
+abbrev pub Leads : ℕ → ℕ → List ℕ → ℕ → Type 0
+Leads from to bytes count = (σ : List Bool) → LeadsAt σ from to bytes count
+
+-- At this state an entry does what the byte does.
+abbrev pub Asks : ℕ → ℕ → ℕ → Type 0
+Asks x s c = (k n : ℕ) (σ : List Bool) → entered x (running k (coding_of s) (mode_of s) n σ) ≡ advance (running k (coding_of s) (mode_of s) n σ) c
+
+-- Where this is a state, it is that behind a comma with these containers open.
+abbrev pub CommaLeads : ℕ → List Bool → Type 0
+CommaLeads s σ = 64 ≤ s → (k n : ℕ) (u : Coding) (m : Mode) → separated (running k u m n σ) ≡ went s (running k u m n σ)

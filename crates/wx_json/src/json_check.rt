@@ -1,14 +1,14 @@
-ghost use Rattle.std.specs.Prelude.{◌≡◌, ℕ, ◌+◌, ◌-◌, ◌^◌, ◌<◌, ◌≤◌, ◌++◌, Bool, true, length, List, [], MatchResult, take, drop, get_or};
+ghost use Rattle.std.specs.Prelude.{◌≡◌, ℕ, ◌+◌, ◌*◌, ◌-◌, ◌^◌, ◌<◌, ◌≤◌, ◌++◌, Bool, true, length, List, [], MatchResult, take, drop, get_or};
 ghost use Rattle.wx_json.specs.Text.{IsJsonText, IsPrefixOfJson, IsFault, IsEndFault};
-ghost use Rattle.wx_json.specs.States.{is_state, is_in_string, is_end, coding_of, entered, went, opened, closed_empty, closed, separated, refused};
+ghost use Rattle.wx_json.specs.States.{is_state, is_end, CommaLeads, coding_of, entered, went, opened, closed_empty, closed, separated, refused};
+ghost use Rattle.wx_json.specs.Levels.{kinds_of};
 ghost use Rattle.wx_json.specs.Coding.{whole};
 ghost use Rattle.wx_json.specs.Check.{Stands, taken, advance, advances, IsRunning, failed};
 
 use crate::levels::{kind_at, put_kind};
-use crate::plain::plain_end;
 use crate::transitions::{
     BAD_UTF8, CLOSE_ARRAY, CLOSE_EMPTY, CLOSE_OBJECT, COMMA, NAME, OPEN_ARRAY, OPEN_OBJECT, STRING,
-    Stop, follow,
+    Stop, travel,
 };
 use crate::{JsonFault, JsonKind};
 use std::marker::Model;
@@ -127,8 +127,7 @@ impl JsonCheck {
         match self.answer() {
             Err(_) => piece.len(),
             Ok(()) => {
-                let begin = self.skip_plain(piece, from);
-                let stop = self.glide(piece, begin);
+                let stop = self.glide(piece, from);
                 if stop.at < piece.len() {
                     self.perform(stop.entry);
                     stop.at + 1
@@ -139,27 +138,7 @@ impl JsonCheck {
         }
     }
 
-    /// Passes over the plain bytes of a string, if one is being read.
-    #[inline(always)]
-    fn skip_plain(&mut self, piece: &[u8], from: usize) -> usize
-        requires running { IsRunning self.old }
-        requires room { taken self.old + length piece.now < 2 ^ 63 + from }
-        requires within { from ≤ length piece.now }
-        ensures bounds { (from ≤ result) × (result ≤ length piece.now) }
-        ensures value { self.new ≡ advances self.old (take (result - from) (drop from piece.now)) }
-        ensures running { IsRunning self.new }
-        ensures count { taken self.new + from ≡ taken self.old + result }
-    {
-        if in_string(self.state) {
-            let end = plain_end(piece, from);
-            self.taken += (end - from) as u64;
-            end
-        } else {
-            from
-        }
-    }
-
-    /// Goes from state to state, as `follow` does.
+    /// Goes on as `travel` does.
     #[inline(always)]
     fn glide(&mut self, piece: &[u8], from: usize) -> Stop
         requires running { IsRunning self.old }
@@ -169,10 +148,11 @@ impl JsonCheck {
         ensures value { self.new ≡ advances self.old (take (result.at - from) (drop from piece.now)) }
         ensures running { IsRunning self.new }
         ensures count { taken self.new + from ≡ taken self.old + result.at }
-        ensures entry { result.at < length piece.now → result.entry < 64 }
+        ensures entry { result.entry < 64 }
         ensures next { result.at < length piece.now → entered result.entry self.new ≡ advance self.new (get_or piece.now result.at 0) }
     {
-        let stop = follow(self.state, piece, from);
+        let after_comma = after_comma(&self.kinds, self.depth);
+        let stop = travel(self.state, after_comma, piece, from);
         self.state = stop.state;
         self.taken += (stop.at - from) as u64;
         stop
@@ -217,10 +197,8 @@ impl JsonCheck {
         requires running { IsRunning self.old }
         ensures { self.new ≡ refused kind self.old }
     {
-        self.fault = Some(JsonFault {
-            place: self.taken,
-            kind,
-        });
+        let place = self.taken;
+        self.fault = Some(JsonFault { place, kind });
     }
 
     #[inline(always)]
@@ -290,12 +268,21 @@ impl JsonCheck {
     }
 }
 
-/// Whether the state is in a string, between two characters.
+/// The state behind a comma in the innermost container, or 0 where none is open.
+#[tactic(auto, unfolding(crate::specs::States::is_state))]
 #[inline(always)]
-fn in_string(state: u8) -> bool
-    ensures { result ≡ is_in_string state }
+fn after_comma(kinds: &[u64], depth: usize) -> u8
+    requires { depth ≤ 64 * length kinds.now }
+    ensures state { 64 ≤ result → is_state result ≡ true }
+    ensures leads { CommaLeads result (kinds_of kinds.now depth) }
 {
-    state == b's' || state == b'S'
+    if depth == 0 {
+        0
+    } else if kind_at(kinds, depth - 1) {
+        b'N'
+    } else {
+        b'W'
+    }
 }
 
 /// Whether a text may end at the state, outside of all containers.

@@ -6,7 +6,7 @@ use crate::{JsonCheck, JsonFault, check};
 use std::marker::Model;
 use wx_id::NoMemory;
 
-/// A JSON text, as its bytes.
+/// A JSON text, carried as the bytes that were given. Contracts see those bytes.
 #[derive(Drop)]
 pub struct JsonText {
     items: Vec<u8>,
@@ -47,6 +47,7 @@ impl JsonText {
         }
     }
 
+    /// The bytes, as they were given.
     pub fn bytes(&self) -> &[u8]
         ensures given { result.now ≡ self.now }
         ensures json { IsJsonText self.now }
@@ -54,12 +55,14 @@ impl JsonText {
         &self.items
     }
 
+    /// How many bytes.
     pub fn len(&self) -> u64
         ensures { result ≡ length self.now }
     {
         self.items.len() as u64
     }
 
+    /// The same bytes once more.
     pub fn try_clone(&self) -> Result<JsonText, NoMemory>
         ensures { IfOk result (λ text. text ≡ self.now) }
     {

@@ -8,7 +8,7 @@ ghost use Rattle.wx_json.specs.Text.{IsJsonText, IsFault, IsEndFault};
 mod json_check;
 mod json_text;
 mod levels;
-mod plain;
+mod runs;
 #[cfg(test)]
 mod tests;
 mod transitions;

@@ -1,4 +1,6 @@
-use crate::{JsonCheck, JsonFault, JsonKind, check};
+ghost use Rattle.std.specs.Prelude.{◌≤◌, length};
+
+use crate::{JsonCheck, JsonFault, JsonKind, JsonText, check};
 use std::process::Abort;
 use std::test::Fail;
 
@@ -10,9 +12,22 @@ fn bytewise(bytes: &[u8]) -> Result<(), JsonFault> {
     check.finish()
 }
 
+fn in_two(bytes: &[u8], cut: usize) -> Result<(), JsonFault>
+    requires { cut ≤ length bytes.now }
+{
+    let mut check = JsonCheck::new();
+    let _ = check.step(&bytes[..cut]);
+    let _ = check.step(&bytes[cut..]);
+    check.finish()
+}
+
+/// In one piece, byte by byte and at each cut into two.
 fn judged(rt: &impl Abort, bytes: &[u8], want: Result<(), JsonFault>) {
     assert!(rt; check(bytes) == want);
     assert!(rt; bytewise(bytes) == want);
+    for cut in 0..bytes.len() {
+        assert!(rt; in_two(bytes, cut) == want);
+    }
 }
 
 fn at(place: u64, kind: JsonKind) -> Result<(), JsonFault> {
@@ -20,32 +35,133 @@ fn at(place: u64, kind: JsonKind) -> Result<(), JsonFault> {
 }
 
 #[test]
-fn small_texts(rt: HostRuntime) -> Result<(), Fail> {
+fn faults_and_ends(rt: HostRuntime) -> Result<(), Fail> {
     judged(&rt, b"[1,]", at(3, JsonKind::Syntax));
     judged(&rt, b"tru", at(3, JsonKind::Ends));
-    judged(&rt, b"01", at(1, JsonKind::Syntax));
     judged(&rt, b"", at(0, JsonKind::Ends));
+    judged(&rt, b"}}", at(0, JsonKind::Syntax));
+    judged(&rt, b"{}}", at(2, JsonKind::Syntax));
     judged(&rt, &[0xEF, 0xBB, 0xBF, 0x31], at(0, JsonKind::Syntax));
     judged(&rt, &[0x22, 0x80, 0x22], at(1, JsonKind::Utf8));
     judged(&rt, &[0xFF], at(0, JsonKind::Utf8));
+    judged(&rt, &[0x22, 0xED, 0xA0], at(2, JsonKind::Utf8));
+    judged(&rt, &[0x22, 0xC0, 0x80], at(1, JsonKind::Utf8));
+    Ok(())
+}
+
+#[test]
+fn numbers(rt: HostRuntime) -> Result<(), Fail> {
+    judged(&rt, b"-0", Ok(()));
+    judged(&rt, b"0.0", Ok(()));
+    judged(&rt, b"1e5", Ok(()));
+    judged(&rt, b"01", at(1, JsonKind::Syntax));
+    judged(&rt, b"1.", at(2, JsonKind::Ends));
+    judged(&rt, b".5", at(0, JsonKind::Syntax));
+    judged(&rt, b"-", at(1, JsonKind::Ends));
+    judged(&rt, b"1e", at(2, JsonKind::Ends));
+    judged(&rt, b"1e+", at(3, JsonKind::Ends));
+    Ok(())
+}
+
+#[test]
+fn strings_and_white_space(rt: HostRuntime) -> Result<(), Fail> {
+    judged(&rt, b"\"\\ud800\"", Ok(()));
+    judged(&rt, b"\"\\uDC00 \\\"\\u00e9\"", Ok(()));
+    judged(&rt, "\"\u{e9}\u{65e5}\u{1f980}\"".as_bytes(), Ok(()));
     judged(
         &rt,
-        b" {\"a\\u00e9\" : [1.5e-3, true, null, {}, [ ]] } ",
+        b" {\"a\\n\" : [1.5e-3, true, null, {}, [ ]] } ",
         Ok(()),
     );
-    judged(&rt, "\"\u{65e5}\u{1f980}\"".as_bytes(), Ok(()));
-    judged(&rt, &[0x22, 0xED, 0xA0], at(2, JsonKind::Utf8));
+    judged(
+        &rt,
+        b"[\n                                        1,\n  2]",
+        Ok(()),
+    );
+    judged(
+        &rt,
+        b"[1,\n                                        \x0B2]",
+        at(44, JsonKind::Syntax),
+    );
+    for c in 0..0x20 {
+        judged(&rt, &[b'"', c, b'"'], at(1, JsonKind::Syntax));
+    }
+    Ok(())
+}
+
+/// A string of 70 bytes, with a control character at each place in turn.
+#[test]
+fn control_characters_in_a_long_string(rt: HostRuntime) -> Result<(), Fail> {
+    let mut text = [b'a'; 72];
+    text[0] = b'"';
+    text[71] = b'"';
+    assert!(&rt; check(&text) == Ok(()));
+    for i in 1..71 {
+        text[i] = 0x1F;
+        assert!(&rt; check(&text) == at(i as u64, JsonKind::Syntax));
+        text[i] = b'a';
+    }
     Ok(())
 }
 
 #[test]
 fn depth(rt: HostRuntime) -> Result<(), Fail> {
-    let mut open = [b'['; 2048];
-    let _ = &open;
-    judged(&rt, &open, at(1024, JsonKind::TooDeep));
-    for c in &mut open[1024..] {
+    let mut text = [b'['; 2050];
+    for c in &mut text[1025..] {
         *c = b']';
     }
-    judged(&rt, &open, Ok(()));
+    judged(&rt, &text, at(1024, JsonKind::TooDeep));
+    judged(&rt, &text[1..2049], Ok(()));
+    judged(&rt, &text[2..2048], Ok(()));
+    Ok(())
+}
+
+#[test]
+fn a_fault_stays(rt: HostRuntime) -> Result<(), Fail> {
+    let mut check = JsonCheck::new();
+    assert!(&rt; check.step(b"[0") == Ok(()));
+    assert!(&rt; check.step(b"1") == at(2, JsonKind::Syntax));
+    assert!(&rt; check.step(b"]") == at(2, JsonKind::Syntax));
+    assert!(&rt; check.finish() == at(2, JsonKind::Syntax));
+    assert!(&rt; check.taken() == 2);
+    Ok(())
+}
+
+#[test]
+fn a_text_and_its_copy(rt: HostRuntime) -> Result<(), Fail> {
+    match JsonText::new(Vec::from_array(rt.alloc(), *b" {}")?) {
+        Ok(text) => match text.try_clone() {
+            Ok(copy) => {
+                assert!(&rt; copy.bytes() == b" {}".as_slice() && copy.len() == 3);
+                assert!(&rt; text.bytes() == b" {}".as_slice());
+            }
+            Err(_fault) => assert!(&rt; false),
+        },
+        Err(_refused) => assert!(&rt; false),
+    }
+    Ok(())
+}
+
+#[test]
+fn bytes_that_are_refused(rt: HostRuntime) -> Result<(), Fail> {
+    match JsonText::new(Vec::from_array(rt.alloc(), *b"[1,]")?) {
+        Ok(_text) => assert!(&rt; false),
+        Err(refused) => {
+            assert!(&rt; Err(refused.0) == at(3, JsonKind::Syntax));
+            assert!(&rt; refused.1.as_slice() == b"[1,]".as_slice());
+        }
+    }
+    Ok(())
+}
+
+#[test]
+fn a_text_from_its_check(rt: HostRuntime) -> Result<(), Fail> {
+    let mut check = JsonCheck::new();
+    let bytes = Vec::from_array(rt.alloc(), *b"[1]")?;
+    let _ = check.step(&bytes);
+    match JsonText::from_check(&check, bytes) {
+        Ok(text) => assert!(&rt; text.bytes() == b"[1]".as_slice()),
+        Err(_refused) => assert!(&rt; false),
+    }
     Ok(())
 }

@@ -1,6 +1,8 @@
 //! The automaton over JSON and UTF-8 as a table: which state a byte leads to from which.
 //!
-//! A state is a letter. Capitals in brackets are the same places in a member's name.
+//! A byte costs one look-up from its state, so states are numbers, and the table is written in letters so that it can
+//! be read. It is held to the automata of `specs/` at each state and byte by the proof of `transition`.
+//! Capitals in brackets are the same places in a member's name.
 //!
 //! | State | Where the check stands |
 //! |---|---|
@@ -15,29 +17,31 @@
 //! | `m` `z` `n` `p` `c` | behind a minus; a first zero; other digits; the point; the digits behind it |
 //! | `x` `y` `w` | behind an exponent's E; its sign; its digits |
 //! | `P` `Q` `R`, `L` `M` `X` `Y`, `l` `q` `r` | behind so many letters of `true`, `false`, `null` |
-ghost use Rattle.std.specs.Prelude.{◌≡◌, ◌≤◌, ◌+◌, ◌-◌, ◌<◌, ℕ, List, Bool, true, length, take, drop, get_or};
-ghost use Rattle.wx_json.specs.States.{is_state, mode_of, coding_of, entered};
-ghost use Rattle.wx_json.specs.Check.{running, advance, advances};
+ghost use Rattle.std.specs.Prelude.{◌≡◌, ◌≤◌, ◌-◌, ◌<◌, ℕ, List, Bool, true, length, take, drop, get_or};
+ghost use Rattle.wx_json.specs.States.{is_state, is_in_string, is_between_values, mode_of, coding_of, entered, next_of, Leads, LeadsAt, Asks, CommaLeads};
+ghost use Rattle.wx_json.specs.Check.{running, advance};
 
-/// An entry from here on is the next state. One below asks for more than a state.
+use crate::runs::{indent_end, plain_end};
+
+/// An entry from here on is the next state. One below asks for more than a state:
 pub(crate) const FIRST_STATE: u8 = b'@';
-/// A string that is no name goes on.
+/// a string that is no name goes on,
 pub(crate) const STRING: u8 = b'+';
-/// A member's name goes on.
+/// a member's name goes on,
 pub(crate) const NAME: u8 = b'*';
-
+/// a comma behind a value,
 pub(crate) const COMMA: u8 = b',';
-
+/// an array or an object opens,
 pub(crate) const OPEN_ARRAY: u8 = b'(';
 
 pub(crate) const OPEN_OBJECT: u8 = b'<';
-/// The container that has just been opened closes.
+/// the container that has just been opened closes, an array, an object,
 pub(crate) const CLOSE_EMPTY: u8 = b'-';
 
 pub(crate) const CLOSE_ARRAY: u8 = b')';
 
 pub(crate) const CLOSE_OBJECT: u8 = b'>';
-/// No UTF-8 text has the byte here. Any other entry is a fault of syntax.
+/// no UTF-8 text has the byte here. Any other entry is a fault of syntax.
 pub(crate) const BAD_UTF8: u8 = b'!';
 
 /// The class of each byte, from `0` on: the row of the table.
@@ -105,40 +109,119 @@ pub(crate) struct Stop {
     pub entry: u8,
 }
 
+/// The entry for a byte at a state.
 #[inline(always)]
-fn transition(state: u8, c: u8) -> u8
+fn transition(state: usize, c: u8) -> u8
     requires { is_state state ≡ true }
     ensures state { 64 ≤ result → is_state result ≡ true }
     ensures value { (k n : ℕ) (σ : List Bool) →
         entered result (running k (coding_of state) (mode_of state) n σ) ≡ advance (running k (coding_of state) (mode_of state) n σ) c }
 {
-    TRANSITIONS[(CLASSES[c as usize] - b'0') as usize][state as usize - 64]
+    TRANSITIONS[(CLASSES[c as usize] - b'0') as usize][state - 64]
 }
 
 /// Goes from state to state until an entry asks for more, or the piece ends.
 #[inline(always)]
-pub(crate) fn follow(start: u8, piece: &[u8], from: usize) -> Stop
+fn follow(start: u8, piece: &[u8], from: usize) -> Stop
     requires state { is_state start ≡ true }
     requires within { from ≤ length piece.now }
     ensures state { is_state result.state ≡ true }
     ensures bounds { (from ≤ result.at) × (result.at ≤ length piece.now) }
-    ensures value { (k n : ℕ) (σ : List Bool) →
-        advances (running k (coding_of start) (mode_of start) n σ) (take (result.at - from) (drop from piece.now))
-        ≡ running (k + (result.at - from)) (coding_of result.state) (mode_of result.state) n σ }
-    ensures entry { result.at < length piece.now → result.entry < 64 }
-    ensures next { result.at < length piece.now → (k n : ℕ) (σ : List Bool) →
-        entered result.entry (running k (coding_of result.state) (mode_of result.state) n σ)
-        ≡ advance (running k (coding_of result.state) (mode_of result.state) n σ) (get_or piece.now result.at 0) }
+    ensures value { Leads start result.state (take (result.at - from) (drop from piece.now)) (result.at - from) }
+    ensures entry { result.entry < 64 }
+    ensures next { result.at < length piece.now → Asks result.entry result.state (get_or piece.now result.at 0) }
 {
-    let mut state = start;
+    let mut state = start as usize;
     let mut at = from;
     while at < piece.len() {
         let entry = transition(state, piece[at]);
         if entry < FIRST_STATE {
-            return Stop { state, at, entry };
+            return Stop {
+                state: state as u8,
+                at,
+                entry,
+            };
         }
-        state = entry;
+        state = entry as usize;
         at += 1;
+    }
+    Stop {
+        state: state as u8,
+        at,
+        entry: b'.',
+    }
+}
+
+/// Whether the state is in a string, between two characters.
+#[inline(always)]
+fn in_string(state: u8) -> bool
+    ensures { result ≡ is_in_string state }
+{
+    state == b's' || state == b'S'
+}
+
+/// Whether the state is behind a bracket that opens or a comma.
+#[inline(always)]
+fn between_values(state: u8) -> bool
+    ensures { result ≡ is_between_values state }
+{
+    state == b'A' || state == b'O' || state == b'W' || state == b'N'
+}
+
+/// Passes over bytes that leave the state as it is: plain ones of a string, and a line's end and indent.
+#[inline(always)]
+fn skip(state: u8, piece: &[u8], from: usize) -> usize
+    requires { from ≤ length piece.now }
+    ensures bounds { (from ≤ result) × (result ≤ length piece.now) }
+    ensures value { Leads state state (take (result - from) (drop from piece.now)) (result - from) }
+{
+    if in_string(state) {
+        plain_end(piece, from)
+    } else if between_values(state) {
+        indent_end(piece, from)
+    } else {
+        from
+    }
+}
+
+/// The state to which an entry leads that asks for no more than that, or 0. A comma leads to `after_comma`.
+#[inline(always)]
+fn plain_next(entry: u8, after_comma: u8) -> u8
+    ensures { result ≡ next_of entry after_comma }
+{
+    match entry {
+        STRING => b's',
+        NAME => b'S',
+        COMMA => after_comma,
+        _ => 0,
+    }
+}
+
+/// Goes on until a container opens or closes, a byte is at fault, or the piece ends. A comma leads to the state
+/// `after_comma`; where that is no state, it stops too.
+#[inline(always)]
+pub(crate) fn travel(start: u8, after_comma: u8, piece: &[u8], from: usize) -> Stop
+    requires state { is_state start ≡ true }
+    requires comma { 64 ≤ after_comma → is_state after_comma ≡ true }
+    requires within { from ≤ length piece.now }
+    ensures state { is_state result.state ≡ true }
+    ensures bounds { (from ≤ result.at) × (result.at ≤ length piece.now) }
+    ensures value { (σ : List Bool) → CommaLeads after_comma σ →
+        LeadsAt σ start result.state (take (result.at - from) (drop from piece.now)) (result.at - from) }
+    ensures entry { result.entry < 64 }
+    ensures next { result.at < length piece.now → Asks result.entry result.state (get_or piece.now result.at 0) }
+{
+    let mut state = start;
+    let mut at = from;
+    while at < piece.len() {
+        let begin = skip(state, piece, at);
+        let stop = follow(state, piece, begin);
+        let next = plain_next(stop.entry, after_comma);
+        if next < FIRST_STATE || stop.at == piece.len() {
+            return stop;
+        }
+        state = next;
+        at = stop.at + 1;
     }
     Stop {
         state,

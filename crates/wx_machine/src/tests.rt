@@ -1,4 +1,5 @@
 use crate::{Context, JsonText, PagePath, PathFault, World};
+use std::alloc::Global;
 use std::test::Fail;
 use wx_id::ExtensionId;
 
@@ -40,19 +41,28 @@ fn numbers(rt: HostRuntime) -> Result<(), Fail> {
     Ok(())
 }
 
+fn page(alloc: Global) -> Option<Context> {
+    let ext = ExtensionId::read(b"abcdefghijklmnopabcdefghijklmnop").ok()?;
+    let path = PagePath::read(alloc, "/p").ok()?;
+    Some(Context::Page { ext, path })
+}
+
+fn is_that_page(context: &Context) -> bool {
+    match context {
+        Context::Page { ext, path } => {
+            ext.text() == "abcdefghijklmnopabcdefghijklmnop" && path.text() == "/p"
+        }
+    }
+}
+
 #[test]
 fn equal_contexts(rt: HostRuntime) {
     assert_eq!(rt; World::new(rt.alloc()), World);
-    match (
-        ExtensionId::read(&[b'a'; 32]),
-        PagePath::read(rt.alloc(), "/p"),
-    ) {
-        (Ok(ext), Ok(path)) => match (Context::Page { ext, path }).try_clone() {
-            Ok(Context::Page { ext: same, path }) => assert!(rt;
-                same == ext && path.text() == "/p"
-            ),
+    match page(rt.alloc()) {
+        Some(context) => match context.try_clone() {
+            Ok(copy) => assert!(rt; is_that_page(&copy)),
             Err(_) => assert!(rt; false),
         },
-        _ => assert!(rt; false),
+        None => assert!(rt; false),
     }
 }

@@ -1,3 +1,13 @@
 pub mod SceneValue
 pub mod Places
 pub mod Carries
+pub mod Words
+pub mod Line
+pub mod Spelling
+pub mod View
+pub mod Names
+pub mod Draft
+pub mod Adding
+pub mod Scene
+pub mod Reading
+pub mod Examples

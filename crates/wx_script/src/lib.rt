@@ -1,8 +1,15 @@
 //! Scenes: their text, and the scripts of their endpoints.
 #![tactic(auto)]
 
+mod draft;
+pub mod laws;
+mod line;
+mod reading;
 mod scene;
 mod script;
+#[cfg(test)]
+mod tests;
+mod word;
 
 pub use scene::{Scene, SceneEndpoint, SceneExtension, SceneFault, SceneKind, SceneReadFault};
 pub use script::{Act, Script, Var};

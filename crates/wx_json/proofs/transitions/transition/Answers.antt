@@ -1,5 +1,5 @@
-use Rattle.std.proofs.Common.{◌≡◌, ◌-◌, ℕ, List, true, get_or, refl, arith}
-use Rattle.wx_json.specs.States.{is_state, mode_of, coding_of, entered}
+use Rattle.std.proofs.Common.{◌≡◌, true, refl, arith}
+use Rattle.wx_json.specs.States.{is_state, mode_of, coding_of}
 use Rattle.wx_json.specs.Coding.{code}
 use Rattle.wx_json.specs.Action.{begin_action, end_action, exponent_action, action_of}
 use Rattle.wx_json.specs.declared.transitions.TheConstants.{CLASSES, TRANSITIONS}

@@ -1,4 +1,4 @@
-use Rattle.std.proofs.Common.{◌+◌, ◌-◌, ◌≡◌, ◌∙◌, Bool, true, false, refl, sym, arith}
+use Rattle.std.proofs.Common.{◌-◌, ◌≡◌, ◌∙◌, Bool, true, false, refl, sym, arith}
 use Rattle.std.specs.Bool.{beq}
 use Rattle.wx_json.specs.Levels.{kinds_of}
 use Rattle.wx_json.specs.States.{mode_of, coding_of, closed}

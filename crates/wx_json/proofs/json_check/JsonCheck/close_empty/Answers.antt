@@ -1,4 +1,4 @@
-use Rattle.std.proofs.Common.{◌+◌, ◌-◌}
+use Rattle.std.proofs.Common.{◌-◌}
 use Rattle.wx_json.specs.Levels.{kinds_of}
 use Rattle.wx_json.specs.States.{mode_of, coding_of, closed_empty}
 use Rattle.wx_json.specs.Check.{running}

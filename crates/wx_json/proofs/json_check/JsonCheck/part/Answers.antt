@@ -1,5 +1,5 @@
-use Rattle.std.proofs.Common.{◌∙◌, ◌-◌, take, drop, length, arith}
-use Rattle.wx_json.proofs.Parts.{joined, one_more, stays}
+use Rattle.std.proofs.Common.{◌∙◌, ◌-◌, take, drop, length}
+use Rattle.wx_json.proofs.Parts.{one_more, stays}
 use Rattle.wx_json.proofs.json_check.JsonCheck.part.Goals as goal
 
 pub returns-in-Err-clause-value : goal.returns-in-Err-clause-value
@@ -7,14 +7,5 @@ returns-in-Err-clause-value c = stays c.args.self.now c.in-Err.field-0 (take (le
 
 pub returns-then-stop-piece-clause-value : goal.returns-then-stop-piece-clause-value
 returns-then-stop-piece-clause-value c =
-    let skip = c.skip_plain-begin in
     let go = c.glide-stop in
-    one_more c.args.self.now go.new.self c.perform.new.self c.args.piece.now c.args.from go.result.at (omega (arith, skip.ensures.bounds.0, go.ensures.bounds.0)) c.if-stop-piece.true
-    (joined c.args.self.now skip.new.self go.new.self c.args.piece.now c.args.from skip.result go.result.at skip.ensures.bounds.0 go.ensures.bounds.0 skip.ensures.value go.ensures.value)
-    (c.perform.ensures ∙ go.ensures.next c.if-stop-piece.true)
-
-pub returns-else-stop-piece-clause-value : goal.returns-else-stop-piece-clause-value
-returns-else-stop-piece-clause-value c =
-    let skip = c.skip_plain-begin in
-    let go = c.glide-stop in
-    joined c.args.self.now skip.new.self go.new.self c.args.piece.now c.args.from skip.result go.result.at skip.ensures.bounds.0 go.ensures.bounds.0 skip.ensures.value go.ensures.value
+    one_more c.args.self.now go.new.self c.perform.new.self c.args.piece.now c.args.from go.result.at go.ensures.bounds.0 c.if-stop-piece.true go.ensures.value (c.perform.ensures ∙ go.ensures.next c.if-stop-piece.true)

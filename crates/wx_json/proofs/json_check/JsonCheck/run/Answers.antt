@@ -1,4 +1,4 @@
-use Rattle.std.proofs.Common.{◌<◌, ◌≤◌, arith}
+use Rattle.std.proofs.Common.{arith}
 use Rattle.wx_json.proofs.Laws.{run-joined}
 use Rattle.wx_json.proofs.json_check.JsonCheck.run.Goals as goal
 

@@ -1,0 +1,7 @@
+use Rattle.std.proofs.Common.{refl}
+use Rattle.wx_cmd.proofs.TellLemmas.{refusal_told}
+use Rattle.wx_cmd.proofs.tell.tell.Goals as goal
+
+pub returns-in-Ok-refusal_line : goal.returns-in-Ok-refusal_line
+returns-in-Ok-refusal_line g c =
+    refusal_told _ c.in-Refused.fault _ _ _ _ _ _ c.in-Refused.is c.status_of.ensures c.as_bytes-in-Ok-refusal_line.ensures.value c.in-Ok-refusal_line.ensures refl c.tell_line-in-Ok-refusal_line.ensures

@@ -1,0 +1,10 @@
+pub mod Words
+pub mod Status
+pub mod Lines
+pub mod Verdict
+pub mod View
+pub mod Told
+pub mod Scenes
+pub mod Headline
+pub mod Judging
+pub mod Complete

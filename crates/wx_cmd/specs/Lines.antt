@@ -1,0 +1,34 @@
+-- The lines that answers have on standard error.
+use Rattle.std.specs.Prelude.{ℕ, List, ◌++◌, decimal, codes}
+use Rattle.wx_script.specs.declared.scene.SceneKind.{SceneKind}
+use Rattle.wx_script.specs.declared.scene.SceneKind.TheVariants.{Missing, Large, Head, Form, Order, Id, Repeated, Unknown, Unbound, Many}
+use Rattle.wx_script.specs.declared.scene.SceneFault.{SceneFault}
+
+-- the word for a fault's kind
+abbrev pub kind_word : SceneKind → List ℕ
+kind_word Missing = codes "missing"
+kind_word Large = codes "large"
+kind_word Head = codes "head"
+kind_word Form = codes "form"
+kind_word Order = codes "order"
+kind_word Id = codes "id"
+kind_word Repeated = codes "repeated"
+kind_word Unknown = codes "unknown"
+kind_word Unbound = codes "unbound"
+kind_word Many = codes "many"
+
+abbrev pub usage_line : List ℕ
+usage_line = codes "wx: usage\n"
+
+-- the file is the word that names it
+abbrev pub read_fault_line : List ℕ → List ℕ
+read_fault_line file = codes "wx: read fault: " ++ (file ++ codes "\n")
+
+abbrev pub refusal_line : SceneFault → List ℕ
+refusal_line fault = codes "wx: scene refused: line " ++ (decimal fault.line ++ (codes ": " ++ (kind_word fault.kind ++ codes "\n")))
+
+abbrev pub write_fault_line : List ℕ
+write_fault_line = codes "wx: write fault\n"
+
+abbrev pub no_memory_line : List ℕ
+no_memory_line = codes "wx: no memory\n"

@@ -1,0 +1,460 @@
+use crate::{Status, wx};
+use std::alloc::{AllocError, Global};
+use std::test::Fail;
+use wx_outside::{MemoryFile, MemoryShelf, MemorySink};
+use wx_script::SceneKind;
+
+/// Room for every text of these tests.
+const AMPLE: usize = 1000000;
+
+/// A shelf with these bytes under the name `s`.
+fn shelf_of(alloc: Global, bytes: Vec<u8>) -> Result<MemoryShelf, AllocError> {
+    let mut files = Vec::new(alloc);
+    files.push(MemoryFile {
+        name: String::from_str(alloc, "s")?,
+        bytes,
+    })?;
+    Ok(MemoryShelf {
+        files,
+        fails_at: Vec::new(alloc),
+        reads: 0,
+        faults: 0,
+    })
+}
+
+/// An empty sink with so much room.
+fn sink_of(alloc: Global, room: usize) -> MemorySink {
+    MemorySink {
+        bytes: Vec::new(alloc),
+        room,
+        fails_at: Vec::new(alloc),
+        writes: 0,
+        faults: 0,
+    }
+}
+
+/// What a call with these words answers.
+fn answer(
+    alloc: Global,
+    words: &[&str],
+    shelf: &mut MemoryShelf,
+    out: &mut MemorySink,
+    err: &mut MemorySink,
+) -> Result<Status, AllocError> {
+    let mut owned = Vec::new(alloc);
+    for word in words {
+        owned.push(String::from_str(alloc, word)?)?;
+    }
+    Ok(wx(alloc, &owned, shelf, out, err))
+}
+
+const RUN: [&str; 3] = ["run", "--rounds", "s"];
+
+/// The scene without endpoints.
+const EMPTY: &str = "wx scene 1 chrome\n";
+
+const USAGE: &str = "wx: usage\n";
+
+const MISSING: &str = "wx: scene refused: line 0: missing\n";
+
+/// The answer to bytes that are no scene.
+const FORM: Status = Status::SceneRefused {
+    line: 0,
+    kind: SceneKind::Form,
+};
+
+/// Memory is ample here, so a program that always answers that it was refused fails.
+#[test]
+fn memory_is_not_refused(rt: HostRuntime) -> Result<(), Fail> {
+    let alloc = rt.alloc();
+    let scene = Vec::from_slice(alloc, EMPTY.as_bytes())?;
+    let mut shelf = shelf_of(alloc, scene)?;
+    let mut out = sink_of(alloc, AMPLE);
+    let mut err = sink_of(alloc, AMPLE);
+    assert_eq!(rt;
+        answer(alloc, &RUN, &mut shelf, &mut out, &mut err)?,
+        Status::Done
+    );
+    assert_eq!(rt; out.bytes.as_slice(), b"wx journal 1 chrome\n".as_slice());
+    assert_eq!(rt; out.bytes.len(), 20);
+    assert_eq!(rt; err.writes, 0);
+    Ok(())
+}
+
+/// Scenes, and the journals that the rules of the broker and the order of rounds give by hand.
+const SCENES: [(&str, &str); 7] = [
+    // Two pages without scripts: both come in, and each leaves in the first round.
+    (
+        "wx scene 1 chrome
+extension x aaaaaaaaaaaaaaaaaaaaaaaaaaaaaaaa
+page q x /q
+page p x /p
+",
+        "wx journal 1 chrome
+c0 enter page aaaaaaaaaaaaaaaaaaaaaaaaaaaaaaaa 2:/q -> context 0
+c1 enter page aaaaaaaaaaaaaaaaaaaaaaaaaaaaaaaa 2:/p -> context 1
+c0 leave -> done
+c1 leave -> done
+",
+    ),
+    // One connection, one post.
+    (
+        "wx scene 1 chrome
+extension x aaaaaaaaaaaaaaaaaaaaaaaaaaaaaaaa
+page q x /q
+  connect ch own
+  post ch 1
+  disconnect ch
+page p x /p
+  listen connect
+  take
+  take
+  take
+",
+        "wx journal 1 chrome
+c0 enter page aaaaaaaaaaaaaaaaaaaaaaaaaaaaaaaa 2:/q -> context 0
+c1 enter page aaaaaaaaaaaaaaaaaaaaaaaaaaaaaaaa 2:/p -> context 1
+c1 listen c--- -> done
+c0 connect own 0: -> channel 0
+c1 take -> connected 0 3
+c0 post 0 1:1 -> posted
+c1 take -> message 0 5
+c0 disconnect 0 -> done
+c1 take -> disconnected 0 7
+c0 leave -> done
+c1 leave -> done
+",
+    ),
+    // A page does not connect to itself, and the post without a channel is passed over.
+    (
+        "wx scene 1 chrome
+extension x aaaaaaaaaaaaaaaaaaaaaaaaaaaaaaaa
+page p x /p
+  listen connect
+  connect ch own
+  post ch 1
+",
+        "wx journal 1 chrome
+c0 enter page aaaaaaaaaaaaaaaaaaaaaaaaaaaaaaaa 2:/p -> context 0
+c0 listen c--- -> done
+c0 connect own 0: -> no_receiver
+c0 leave -> done
+",
+    ),
+    // Both listeners get the connection, the message and its end.
+    (
+        "wx scene 1 chrome
+extension x aaaaaaaaaaaaaaaaaaaaaaaaaaaaaaaa
+page s x /s
+  connect ch own
+  post ch 7
+  disconnect ch
+page p x /p
+  listen connect
+  take
+  take
+  take
+page q x /q
+  listen connect
+  take
+  take
+  take
+",
+        "wx journal 1 chrome
+c0 enter page aaaaaaaaaaaaaaaaaaaaaaaaaaaaaaaa 2:/s -> context 0
+c1 enter page aaaaaaaaaaaaaaaaaaaaaaaaaaaaaaaa 2:/p -> context 1
+c1 listen c--- -> done
+c2 enter page aaaaaaaaaaaaaaaaaaaaaaaaaaaaaaaa 2:/q -> context 2
+c2 listen c--- -> done
+c0 connect own 0: -> channel 0
+c1 take -> connected 0 5
+c2 take -> connected 0 5
+c0 post 0 1:7 -> posted
+c1 take -> message 0 8
+c2 take -> message 0 8
+c0 disconnect 0 -> done
+c1 take -> disconnected 0 11
+c2 take -> disconnected 0 11
+c0 leave -> done
+c1 leave -> done
+c2 leave -> done
+",
+    ),
+    // The closer is told nothing of its own closing; a second one has no effect, and nothing is posted behind it.
+    (
+        "wx scene 1 chrome
+extension x aaaaaaaaaaaaaaaaaaaaaaaaaaaaaaaa
+page s x /s
+  connect ch own
+  disconnect ch
+  disconnect ch
+  post ch 7
+  take
+page p x /p
+  listen connect
+  take
+  take
+  take
+",
+        "wx journal 1 chrome
+c0 enter page aaaaaaaaaaaaaaaaaaaaaaaaaaaaaaaa 2:/s -> context 0
+c1 enter page aaaaaaaaaaaaaaaaaaaaaaaaaaaaaaaa 2:/p -> context 1
+c1 listen c--- -> done
+c0 connect own 0: -> channel 0
+c1 take -> connected 0 3
+c0 disconnect 0 -> done
+c1 take -> disconnected 0 5
+c0 disconnect 0 -> no_effect
+c1 take -> empty
+c0 post 0 1:7 -> port_closed
+c1 leave -> done
+c0 take -> empty
+c0 leave -> done
+",
+    ),
+    // A channel stays while one of its receivers does: p leaves at entry 6, q at entry 13, and only that closes it.
+    (
+        "wx scene 1 chrome
+extension x aaaaaaaaaaaaaaaaaaaaaaaaaaaaaaaa
+page s x /s
+  connect ch own
+  post ch 7
+  take
+  take
+  take
+page p x /p
+  listen connect
+page q x /q
+  listen connect
+  take
+  take
+  take
+",
+        "wx journal 1 chrome
+c0 enter page aaaaaaaaaaaaaaaaaaaaaaaaaaaaaaaa 2:/s -> context 0
+c1 enter page aaaaaaaaaaaaaaaaaaaaaaaaaaaaaaaa 2:/p -> context 1
+c1 listen c--- -> done
+c2 enter page aaaaaaaaaaaaaaaaaaaaaaaaaaaaaaaa 2:/q -> context 2
+c2 listen c--- -> done
+c0 connect own 0: -> channel 0
+c1 leave -> done
+c2 take -> connected 0 5
+c0 post 0 1:7 -> posted
+c2 take -> message 0 8
+c0 take -> empty
+c2 take -> empty
+c0 take -> empty
+c2 leave -> done
+c0 take -> disconnected 0 13
+c0 leave -> done
+",
+    ),
+    // What was posted is taken in order, also behind the sender's leave at entry 11; then comes the closing.
+    (
+        "wx scene 1 chrome
+extension x aaaaaaaaaaaaaaaaaaaaaaaaaaaaaaaa
+page q x /q
+  connect ch own
+  post ch 1
+  post ch 2
+  post ch 3
+page p x /p
+  listen connect
+  listen connect
+  listen connect
+  listen connect
+  listen connect
+  listen connect
+  take
+  take
+  take
+  take
+  take
+  take
+",
+        "wx journal 1 chrome
+c0 enter page aaaaaaaaaaaaaaaaaaaaaaaaaaaaaaaa 2:/q -> context 0
+c1 enter page aaaaaaaaaaaaaaaaaaaaaaaaaaaaaaaa 2:/p -> context 1
+c1 listen c--- -> done
+c0 connect own 0: -> channel 0
+c1 listen c--- -> done
+c0 post 0 1:1 -> posted
+c1 listen c--- -> done
+c0 post 0 1:2 -> posted
+c1 listen c--- -> done
+c0 post 0 1:3 -> posted
+c1 listen c--- -> done
+c0 leave -> done
+c1 listen c--- -> done
+c1 take -> connected 0 3
+c1 take -> message 0 5
+c1 take -> message 0 7
+c1 take -> message 0 9
+c1 take -> disconnected 0 11
+c1 take -> empty
+c1 leave -> done
+",
+    ),
+];
+
+#[test]
+fn scenes_run(rt: HostRuntime) -> Result<(), Fail> {
+    let alloc = rt.alloc();
+    for (scene, journal) in SCENES {
+        let mut shelf = shelf_of(alloc, Vec::from_slice(alloc, scene.as_bytes())?)?;
+        let mut out = sink_of(alloc, AMPLE);
+        let mut err = sink_of(alloc, AMPLE);
+        let status = answer(alloc, &RUN, &mut shelf, &mut out, &mut err)?;
+        assert_eq!(rt; status, Status::Done);
+        assert_eq!(rt; str::from_utf8(&out.bytes), Ok(journal));
+        assert_eq!(rt; err.writes, 0);
+    }
+    Ok(())
+}
+
+#[test]
+fn words(rt: HostRuntime) -> Result<(), Fail> {
+    let alloc = rt.alloc();
+    let missing = Status::SceneRefused {
+        line: 0,
+        kind: SceneKind::Missing,
+    };
+    let cases: [(&[&str], Status, &str); 13] = [
+        (&[], Status::Usage, USAGE),
+        (&["run"], Status::Usage, USAGE),
+        (&["run", "s"], Status::Usage, USAGE),
+        (&["run", "a", "b"], Status::Usage, USAGE),
+        (&["run", "-x"], Status::Usage, USAGE),
+        (&["run", "--rounds", "-x"], Status::Usage, USAGE),
+        (&["run", "--rounds", "--rounds", "s"], Status::Usage, USAGE),
+        (&["storm", "5"], Status::Usage, USAGE),
+        (&["--help"], Status::Usage, USAGE),
+        (&["run", "--rounds", "t"], missing, MISSING),
+        (&["run", "--rounds", ""], missing, MISSING),
+        (&["run", "--rounds", "-"], missing, MISSING),
+        (&["run", "--rounds", "s"], Status::Done, ""),
+    ];
+    for (words, status, line) in cases {
+        let scene = Vec::from_slice(alloc, EMPTY.as_bytes())?;
+        let mut shelf = shelf_of(alloc, scene)?;
+        let mut out = sink_of(alloc, AMPLE);
+        let mut err = sink_of(alloc, AMPLE);
+        assert_eq!(rt;
+            answer(alloc, words, &mut shelf, &mut out, &mut err)?,
+            status
+        );
+        assert_eq!(rt; str::from_utf8(&err.bytes), Ok(line));
+        assert_eq!(rt; out.writes == 0, status != Status::Done);
+    }
+    Ok(())
+}
+
+#[test]
+fn no_scenes(rt: HostRuntime) -> Result<(), Fail> {
+    let alloc = rt.alloc();
+    let form = "wx: scene refused: line 0: form\n";
+    let cases = [
+        "",
+        "wx scene 1 chrome",
+        "wx scene 1 mdn\n",
+        "wx scene 1 chrome\n\n",
+        "wx scene 1 chrome\n# a remark\n",
+        "wx scene 1 chrome\n  take\n",
+        "wx scene 1 chrome\nextension x abc\n",
+        "wx scene 1 chrome\npage p x /p\n",
+    ];
+    for text in cases {
+        let mut shelf = shelf_of(alloc, Vec::from_slice(alloc, text.as_bytes())?)?;
+        let mut out = sink_of(alloc, AMPLE);
+        let mut err = sink_of(alloc, AMPLE);
+        let status = answer(alloc, &RUN, &mut shelf, &mut out, &mut err)?;
+        assert_eq!(rt; status, FORM, "{text}");
+        assert_eq!(rt; str::from_utf8(&err.bytes), Ok(form), "{text}");
+        assert_eq!(rt; out.writes, 0, "{text}");
+    }
+    let mut shelf = shelf_of(alloc, vec![in alloc; 35u8; 67108865]?)?;
+    let mut out = sink_of(alloc, AMPLE);
+    let mut err = sink_of(alloc, AMPLE);
+    let status = answer(alloc, &RUN, &mut shelf, &mut out, &mut err)?;
+    assert_eq!(rt;
+        status,
+        Status::SceneRefused {
+            line: 0,
+            kind: SceneKind::Large
+        }
+    );
+    assert_eq!(rt;
+        err.bytes.as_slice(),
+        b"wx: scene refused: line 0: large\n".as_slice()
+    );
+    Ok(())
+}
+
+#[test]
+fn faults(rt: HostRuntime) -> Result<(), Fail> {
+    let alloc = rt.alloc();
+    let form = "wx: scene refused: line 0: form\n";
+    let fault = "wx: write fault\n";
+    // The scene, whether its read fails, the room on both sinks; the status, and what stands on both.
+    let cases = [
+        (
+            EMPTY,
+            true,
+            (AMPLE, AMPLE),
+            Status::ReadFault,
+            "",
+            "wx: read fault: s\n",
+        ),
+        (EMPTY, true, (AMPLE, 3), Status::WriteFault, "", "wx:"),
+        (EMPTY, false, (0, AMPLE), Status::WriteFault, "", fault),
+        (
+            EMPTY,
+            false,
+            (10, AMPLE),
+            Status::WriteFault,
+            "wx journal",
+            fault,
+        ),
+        (EMPTY, false, (10, 0), Status::WriteFault, "wx journal", ""),
+        (
+            EMPTY,
+            false,
+            (20, 0),
+            Status::Done,
+            "wx journal 1 chrome\n",
+            "",
+        ),
+        ("", false, (AMPLE, 0), Status::WriteFault, "", ""),
+        ("", false, (0, AMPLE), FORM, "", form),
+    ];
+    for (scene, read_fails, room, status, on_out, on_err) in cases {
+        let mut shelf = shelf_of(alloc, Vec::from_slice(alloc, scene.as_bytes())?)?;
+        if read_fails {
+            shelf.fails_at.push(0)?;
+        }
+        let mut out = sink_of(alloc, room.0);
+        let mut err = sink_of(alloc, room.1);
+        assert_eq!(rt;
+            answer(alloc, &RUN, &mut shelf, &mut out, &mut err)?,
+            status
+        );
+        assert_eq!(rt; str::from_utf8(&out.bytes), Ok(on_out));
+        assert_eq!(rt; str::from_utf8(&err.bytes), Ok(on_err));
+    }
+    Ok(())
+}
+
+#[test]
+fn numbers(rt: HostRuntime) {
+    let cases = [
+        (Status::Done, 0),
+        (Status::Usage, 2),
+        (Status::ReadFault, 3),
+        (FORM, 4),
+        (Status::WriteFault, 6),
+        (Status::NoMemory, 7),
+    ];
+    for (status, number) in cases {
+        assert_eq!(rt; status.number(), number);
+    }
+}

@@ -1,0 +1,90 @@
+-- Places behind one more entry.
+use Rattle.std.proofs.Common.{◌≡◌, ◌≢◌, ℕ, zero, suc, ◌+◌, ◌<◌, ◌≤◌, length, set, cond, arith, true, false, List, [], ◌∷◌, ◌++◌, Some, refl, sym, ap, ◌∙◌, subst, eqb}
+use Rattle.std.specs.Prelude.{slice_get}
+use Rattle.std.proofs.lemmas.Bool.{eqb-true, eq-eqb}
+use Rattle.wx_id.specs.declared.numbers.ContextNo.{ContextNo}
+use Rattle.wx_machine.specs.declared.entries.Who.{Who}
+use Rattle.wx_machine.specs.declared.entries.Who.TheVariants.{Context as ByContext}
+use Rattle.wx_machine.specs.declared.entries.Entry.{Entry}
+use Rattle.wx_machine.specs.Contexts.{is_by}
+use Rattle.wx_script.specs.declared.script.Act.{Act}
+use Rattle.wx_script.specs.Places.{Place, place_behind, place_of}
+use Rattle.wx_run.specs.Places.{places_from}
+
+abbrev pub numbered : ℕ → ContextNo
+numbered n = record { 0 = n }
+
+pub is_by-own : (who : Who) (c : ContextNo) → who ≡ ByContext c → is_by who c ≡ true
+is_by-own who c own = ap (λ w. is_by w c) own ∙ eq-eqb c.0 c.0 refl
+
+pub is_by-other : (who : Who) (d c : ContextNo) → who ≡ ByContext d → d.0 ≢ c.0 → is_by who c ≡ false
+is_by-other who d c own other =
+    ap (λ w. is_by w c) own
+    ∙ elim (eqb d.0 c.0) as (λ b. eqb d.0 c.0 ≡ b → b ≡ false) [
+      | true ↦ λ is. absurd (other (eqb-true d.0 c.0 is))
+      | false ↦ λ is. refl
+    ] refl
+
+pub place_of-own : (s : List Act) (c : ContextNo) (past : List Entry) (e : Entry) → e.who ≡ ByContext c → place_of s c (e ∷ past) ≡ place_behind s (place_of s c past) e.answer
+unfolding place_of
+place_of-own s c past e own = ap (λ b. cond b (place_behind s (place_of s c past) e.answer) (place_of s c past)) (is_by-own e.who c own)
+
+-- An entry of another context leaves the place.
+pub place_of-other : (s : List Act) (d c : ContextNo) (past : List Entry) (e : Entry) → e.who ≡ ByContext d → d.0 ≢ c.0 → place_of s c (e ∷ past) ≡ place_of s c past
+unfolding place_of
+place_of-other s d c past e own other = ap (λ b. cond b (place_behind s (place_of s c past) e.answer) (place_of s c past)) (is_by-other e.who d c own other)
+
+-- ---- all endpoints at once
+
+-- an entry of a context below these endpoints leaves their places
+pub places_from-below : (ss : List (List Act)) (n : ℕ) (past : List Entry) (e : Entry) (c : ContextNo) → e.who ≡ ByContext c → c.0 < n → places_from ss n (e ∷ past) ≡ places_from ss n past
+places_from-below [] n past e c own below = refl
+places_from-below (s ∷ ss) n past e c own below =
+    let apart : c.0 ≢ n = omega arith in
+    ap (λ p. p ∷ places_from ss (n + 1) (e ∷ past)) (place_of-other s c (numbered n) past e own apart)
+    ∙ ap (λ ps. place_of s (numbered n) past ∷ ps) (places_from-below ss (n + 1) past e c own (omega arith))
+
+-- and so does an entry of a context behind them
+pub places_from-later : (ss : List (List Act)) (n : ℕ) (past : List Entry) (e : Entry) (c : ContextNo) → e.who ≡ ByContext c → n + length ss ≤ c.0 → places_from ss n (e ∷ past) ≡ places_from ss n past
+places_from-later [] n past e c own later = refl
+places_from-later (s ∷ ss) n past e c own later =
+    let apart : c.0 ≢ n = omega arith in
+    ap (λ p. p ∷ places_from ss (n + 1) (e ∷ past)) (place_of-other s c (numbered n) past e own apart)
+    ∙ ap (λ ps. place_of s (numbered n) past ∷ ps) (places_from-later ss (n + 1) past e c own (omega arith))
+
+-- An entry of the endpoint at k, which is context m, changes that place alone.
+pub places_from-own : (ss : List (List Act)) (n k m : ℕ) (s : List Act) (past : List Entry) (e : Entry) → slice_get ss k ≡ Some s → m ≡ n + k → e.who ≡ ByContext (numbered m)
+    → places_from ss n (e ∷ past) ≡ set (places_from ss n past) k (place_behind s (place_of s (numbered m) past) e.answer)
+places_from-own [] n k m s past e is at own = absurd cc
+places_from-own (x ∷ ss) n zero m s past e is at own =
+    let same : x ≡ s = cc in
+    let here : n ≡ m = omega arith in
+    let mine : e.who ≡ ByContext (numbered n) = own ∙ ap (λ n. ByContext (numbered n)) (sym here) in
+    let P : List Act → ℕ → Type 0 = λ s m. ◌≡◌ {A = List Place} (places_from (x ∷ ss) n (e ∷ past)) (place_behind s (place_of s (numbered m) past) e.answer ∷ places_from ss (n + 1) past) in
+    let first : P x n =
+    ap (λ p. p ∷ places_from ss (n + 1) (e ∷ past)) (place_of-own x (numbered n) past e mine)
+    ∙ ap (λ ps. place_behind x (place_of x (numbered n) past) e.answer ∷ ps) (places_from-below ss (n + 1) past e (numbered n) mine (omega arith)) in
+    subst (λ m. P s m) here (subst (λ s. P s n) same first)
+places_from-own (x ∷ ss) n (suc k) m s past e is at own =
+    let apart : m ≢ n = omega arith in
+    let next : m ≡ n + 1 + k = omega arith in
+    ap (λ p. p ∷ places_from ss (n + 1) (e ∷ past)) (place_of-other x (numbered m) (numbered n) past e own apart)
+    ∙ ap (λ ps. place_of x (numbered n) past ∷ ps) (places_from-own ss (n + 1) k m s past e is next own)
+
+pub slice_get-places_from : (ss : List (List Act)) (n k m : ℕ) (s : List Act) (past : List Entry) → slice_get ss k ≡ Some s → m ≡ n + k → slice_get (places_from ss n past) k ≡ Some (place_of s (numbered m) past)
+slice_get-places_from [] n k m s past is at = absurd cc
+slice_get-places_from (x ∷ ss) n zero m s past is at =
+    let same : x ≡ s = cc in
+    let here : n ≡ m = omega arith in
+    ap Some (ap (λ x. place_of x (numbered n) past) same ∙ ap (λ n. place_of s (numbered n) past) here)
+slice_get-places_from (x ∷ ss) n (suc k) m s past is at =
+    let next : m ≡ n + 1 + k = omega arith in
+    slice_get-places_from ss (n + 1) k m s past is next
+
+pub length-places_from : (ss : List (List Act)) (n : ℕ) (past : List Entry) → length (places_from ss n past) ≡ length ss
+length-places_from [] n past = refl
+length-places_from (s ∷ ss) n past = omega (arith, length-places_from ss (n + 1) past)
+
+pub places_from-append : (ss : List (List Act)) (s : List Act) (n m : ℕ) (past : List Entry) → m ≡ n + length ss → places_from (ss ++ s ∷ []) n past ≡ places_from ss n past ++ place_of s (numbered m) past ∷ []
+places_from-append [] s n m past at = let here : n ≡ m = omega arith in ap (λ n. place_of s (numbered n) past ∷ []) here
+places_from-append (x ∷ ss) s n m past at = ap (λ ps. place_of x (numbered n) past ∷ ps) (places_from-append ss s (n + 1) m past (omega arith))

@@ -1,0 +1,44 @@
+-- The opening of a run: each endpoint of the scene comes in, in order, and listens where its script begins with that.
+use Rattle.std.specs.Prelude.{ℕ, ◌+◌, List, [], ◌∷◌, ◌++◌, Option, Some, None, option_to_list}
+use Rattle.std.specs.Option.{option_map}
+use Rattle.wx_id.specs.declared.numbers.ContextNo.{ContextNo}
+use Rattle.wx_machine.specs.declared.contexts.Context.{Context}
+use Rattle.wx_machine.specs.declared.contexts.Listens.{Listens}
+use Rattle.wx_machine.specs.declared.entries.Who.TheVariants.{Context as ByContext}
+use Rattle.wx_machine.specs.declared.entries.Call.TheVariants as call
+use Rattle.wx_machine.specs.declared.entries.Answer.TheVariants as answer
+use Rattle.wx_machine.specs.declared.entries.Entry.{Entry}
+use Rattle.wx_script.specs.declared.script.Act.{Act}
+use Rattle.wx_script.specs.declared.script.Act.TheVariants as act
+use Rattle.wx_script.specs.declared.scene.SceneEndpoint.{SceneEndpoint}
+use Rattle.wx_script.specs.SceneValue.{SceneValue}
+
+-- context c comes in
+abbrev pub entered : ContextNo → Context → Entry
+entered c x = record { who = ByContext c; call = call.Enter x; answer = answer.Entered c }
+
+-- context c says what it listens to
+abbrev pub listened : ContextNo → Listens → Entry
+listened c l = record { who = ByContext c; call = call.Listen l; answer = answer.Done }
+
+-- the first command, where it is a `listen`
+abbrev pub first_listen : List Act → Option Listens
+first_listen [] = None
+first_listen (act.Listen l ∷ acts) = Some l
+first_listen (act.Connect v target name ∷ acts) = None
+first_listen (act.Post v text ∷ acts) = None
+first_listen (act.Disconnect v ∷ acts) = None
+first_listen (act.Take ∷ acts) = None
+
+-- an endpoint's `enter`, and its `listen` where that is its first command
+abbrev pub first_entries : ContextNo → SceneEndpoint → List Entry
+first_entries c endpoint = entered c endpoint.context ∷ option_to_list (option_map (listened c) (first_listen endpoint.script))
+
+-- the first entries of these endpoints, which are numbered from n
+abbrev pub opening_from : ℕ → List SceneEndpoint → List Entry
+opening_from n [] = []
+opening_from n (endpoint ∷ endpoints) = first_entries (record { 0 = n }) endpoint ++ opening_from (n + 1) endpoints
+
+-- the opening of a run of the scene, in order
+abbrev pub opening : SceneValue → List Entry
+opening scene = opening_from 0 scene.endpoints

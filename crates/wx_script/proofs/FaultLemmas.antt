@@ -1,0 +1,86 @@
+-- Every fault of a scene names a line.
+use Rattle.std.proofs.Common.{◌≡◌, ℕ, ◌+◌, ◌≤◌, cond, arith, Bool, true, false, List, [], ◌∷◌, Some, None, Ok, Err, refl, sym, ap, ◌∙◌, subst}
+use Rattle.std.specs.Prelude.{IfErr, IsTrue, Result, nat_le, length, not, codes, ◌==◌}
+use Rattle.std.specs.Str.{bytes_eq}
+use Rattle.std.specs.declared.option.Option.{Option}
+use Rattle.wx_id.specs.Ids.{is_extension_id}
+use Rattle.wx_script.specs.declared.script.Act.{Act}
+use Rattle.wx_script.specs.declared.scene.Scene.{Scene}
+use Rattle.wx_script.specs.declared.scene.SceneKind.{SceneKind}
+use Rattle.wx_script.specs.declared.scene.SceneFault.{SceneFault}
+use Rattle.wx_script.specs.declared.scene.SceneReadFault.{SceneReadFault}
+use Rattle.wx_script.specs.declared.scene.SceneReadFault.TheVariants as fault
+use Rattle.wx_script.specs.SceneValue.{SceneValue}
+use Rattle.wx_script.specs.Line.{Command, Line, extension, page, script, line_at}
+use Rattle.wx_script.specs.Names.{has_extension, has_endpoint, id_under}
+use Rattle.wx_script.specs.Draft.{Draft, fresh, extension_added, page_with, page_added, act_of, act_added, channels_after, command_added, commands, line_added}
+use Rattle.wx_script.specs.Scene.{lines_of, line_or_form, text_added, unless_faulty, ended, lines_added, scene_from, behind_head, headed, scene_of}
+use Rattle.wx_script.specs.Reading.{ReadsIt, is_of_a_line, IsOfALine, NamesALine}
+
+abbrev OfALine : {A : Type 0} → Result A SceneKind → Type 0
+OfALine r = IfErr r (λ k. IsTrue (is_of_a_line k))
+
+of_choice : {A : Type 0} (b : Bool) (x y : Result A SceneKind) → OfALine x → OfALine y → OfALine (cond b x y)
+of_choice true x y hx hy = hx
+of_choice false x y hx hy = hy
+
+of_page_with : (d : Draft) (name : List ℕ) (id : Option (List ℕ)) (path : List ℕ) → OfALine (page_with d name id path)
+of_page_with d name None path = refl
+of_page_with d name (Some id) path = of_choice (nat_le 1024 (length d.endpoints)) _ _ refl tt
+
+of_act_added : (d : Draft) (a : Option Act) (channels : List (List ℕ)) → OfALine (act_added d a channels)
+of_act_added d None channels = refl
+of_act_added d (Some a) channels = of_choice (nat_le 65534 (commands d.endpoints)) _ _ refl tt
+
+of_line_added : (d : Draft) (l : Line) → OfALine (line_added d l)
+of_line_added d (extension name id) = of_choice (not (is_extension_id id)) _ _ refl (of_choice (has_extension name id d.extensions) _ _ refl tt)
+of_line_added d (page name ext path) = of_choice (has_endpoint name d.endpoints) _ _ refl (of_page_with d name (id_under ext d.extensions) path)
+of_line_added d (script c) = of_choice (length d.endpoints == 0) _ _ refl (of_act_added d (act_of d.channels c) (channels_after d.channels c))
+
+of_line_or_form : (d : Draft) (l : Option Line) → OfALine (line_or_form d l)
+of_line_or_form d None = refl
+of_line_or_form d (Some l) = of_line_added d l
+
+abbrev AtALine : {A : Type 0} → Result A SceneFault → Type 0
+AtALine r = IfErr r IsOfALine
+
+at_unless_faulty : {A B : Type 0} (n : ℕ) (r : Result A SceneKind) (f : A → Result B SceneFault) → 1 ≤ n → OfALine r → ((x : A) → AtALine (f x)) → AtALine (unless_faulty n r f)
+at_unless_faulty n (Ok x) f low h each = each x
+at_unless_faulty n (Err k) f low h each = record { line = low; kind = h }
+
+at_ended : (n : ℕ) (d : Draft) (text : List ℕ) → 1 ≤ n → AtALine (ended n d text)
+at_ended n d [] low = tt
+at_ended n d (b ∷ bs) low = record { line = low; kind = refl }
+
+at_lines_added : (n : ℕ) (d : Draft) (texts : List (List ℕ)) → 1 ≤ n → AtALine (lines_added n d texts)
+at_lines_added n d [] low = tt
+at_lines_added n d (text ∷ []) low = at_ended n d text low
+at_lines_added n d (text ∷ next ∷ texts) low =
+    at_unless_faulty n (text_added d text) _ low (of_line_or_form d (line_at text)) (λ d. at_lines_added (n + 1) d (next ∷ texts) (omega (arith, low)))
+
+at_scene_from : (r : Result Draft SceneFault) → AtALine r → AtALine (scene_from r)
+at_scene_from (Ok d) h = tt
+at_scene_from (Err e) h = h
+
+first : 1 ≤ 1
+first = omega arith
+
+second : 1 ≤ 2
+second = omega arith
+
+at_behind_head : (texts : List (List ℕ)) → AtALine (behind_head texts)
+at_behind_head [] = record { line = first; kind = refl }
+at_behind_head (text ∷ texts) = at_scene_from (lines_added 2 fresh (text ∷ texts)) (at_lines_added 2 fresh (text ∷ texts) second)
+
+at_choice : {A : Type 0} (b : Bool) (x y : Result A SceneFault) → AtALine x → AtALine y → AtALine (cond b x y)
+at_choice true x y hx hy = hx
+at_choice false x y hx hy = hy
+
+at_headed : (texts : List (List ℕ)) → AtALine (headed texts)
+at_headed [] = record { line = first; kind = refl }
+at_headed (head ∷ texts) = at_choice (bytes_eq head (codes "wx scene 1 chrome")) _ _ (at_behind_head texts) (record { line = first; kind = refl })
+
+pub names_a_line : (r : Result Scene SceneReadFault) (text : List ℕ) → ReadsIt r (scene_of text) → IfErr r NamesALine
+names_a_line (Ok scene) text h = tt
+names_a_line (Err fault.NoMemory) text h = tt
+names_a_line (Err (fault.Bad f)) text h = subst AtALine h (at_headed (lines_of text))

@@ -1,0 +1,27 @@
+-- What the code answers that takes a line.
+use Rattle.std.specs.Prelude.{◌≡◌, List, Option, Some, None, Result, Ok, Err}
+use Rattle.wx_script.specs.declared.script.Act.{Act}
+use Rattle.wx_script.specs.declared.scene.SceneKind.{SceneKind}
+use Rattle.wx_script.specs.declared.scene.SceneKind.TheVariants as kind
+use Rattle.wx_script.specs.declared.draft.Draft as code
+use Rattle.wx_script.specs.declared.draft.LineFault.{LineFault}
+use Rattle.wx_script.specs.declared.draft.LineFault.TheVariants as fault
+use Rattle.wx_script.specs.Draft.{Draft}
+
+abbrev pub so_far : code.Draft → Draft
+so_far d = record { extensions = d.extensions.items; endpoints = d.endpoints.items; channels = d.channels.items }
+
+abbrev pub IsFault : {A : Type 0} → LineFault → Result A SceneKind → Type 0
+IsFault fault.NoMemory made = Unit {0}
+IsFault (fault.Bad k) made = made ≡ Err k
+
+-- the draft is what the line makes of it, unless memory ran out
+abbrev pub Makes : {A : Type 0} → Draft → Result A LineFault → Result Draft SceneKind → Type 0
+Makes new (Ok x) made = made ≡ Ok new
+Makes new (Err e) made = IsFault e made
+
+-- a command's act, unless memory ran out
+abbrev pub MakesAct : Result Act LineFault → Option Act → Type 0
+MakesAct (Ok a) made = made ≡ Some a
+MakesAct (Err fault.NoMemory) made = Unit {0}
+MakesAct (Err (fault.Bad k)) made = (k ≡ kind.Unbound) × (made ≡ None)

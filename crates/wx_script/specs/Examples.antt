@@ -1,0 +1,70 @@
+-- Worked scenes, and faults with their lines.
+use Rattle.std.specs.Prelude.{◌≡◌, ℕ, List, [], ◌∷◌, ◌++◌, Result, Ok, Err, Some, true, false, codes}
+use Rattle.wx_machine.specs.declared.contexts.Context.TheVariants.{Page}
+use Rattle.wx_machine.specs.declared.contexts.Target.TheVariants.{Own}
+use Rattle.wx_script.specs.declared.script.Act.{Act}
+use Rattle.wx_script.specs.declared.script.Act.TheVariants as act
+use Rattle.wx_script.specs.declared.scene.SceneExtension.{SceneExtension}
+use Rattle.wx_script.specs.declared.scene.SceneEndpoint.{SceneEndpoint}
+use Rattle.wx_script.specs.declared.scene.SceneKind.{SceneKind}
+use Rattle.wx_script.specs.declared.scene.SceneFault.{SceneFault}
+use Rattle.wx_script.specs.Line.{Line, line_at, listens_to}
+use Rattle.wx_script.specs.Spelling.{IsLine, spelling}
+use Rattle.wx_script.specs.Draft.{var}
+use Rattle.wx_script.specs.SceneValue.{SceneValue}
+use Rattle.wx_script.specs.Scene.{scene_of, fault_at}
+
+-- the scene of the head line and these lines, each with its line feed
+abbrev pub with_lines : List (List ℕ) → List ℕ
+with_lines [] = []
+with_lines (line ∷ lines) = line ++ 10 ∷ with_lines lines
+
+abbrev pub scene_with : List (List ℕ) → Result SceneValue SceneFault
+scene_with lines = scene_of (codes "wx scene 1 chrome" ++ 10 ∷ with_lines lines)
+
+abbrev pub IsScene : List (List ℕ) → List SceneExtension → List SceneEndpoint → Type 0
+IsScene lines extensions endpoints = scene_with lines ≡ Ok (record { extensions = extensions; endpoints = endpoints })
+
+-- line n of the scene, the head line being line 1, is the first faulty one
+abbrev pub HasFault : List (List ℕ) → ℕ → SceneKind → Type 0
+HasFault lines n k = scene_with lines ≡ Err (fault_at n k)
+
+abbrev pub id_a : List ℕ
+id_a = codes "aaaaaaaaaaaaaaaaaaaaaaaaaaaaaaaa"
+
+abbrev pub extension_x : List ℕ
+extension_x = codes "extension x aaaaaaaaaaaaaaaaaaaaaaaaaaaaaaaa"
+
+-- two pages with scripts: one connects, posts a number and disconnects, the other listens and takes
+abbrev pub two_pages : List (List ℕ)
+two_pages =
+    extension_x
+    ∷ codes "page q x /q" ∷ codes "  connect ch own" ∷ codes "  post ch 1" ∷ codes "  disconnect ch"
+    ∷ codes "page p x /p" ∷ codes "  listen connect" ∷ codes "  take" ∷ codes "  take" ∷ codes "  take" ∷ []
+
+abbrev pub x_declared : List SceneExtension
+x_declared = record { name = codes "x"; id = id_a } ∷ []
+
+abbrev pub page_of_x : List ℕ → List ℕ → List Act → SceneEndpoint
+page_of_x name path script = record { name = name; context = Page id_a path; script = script }
+
+abbrev pub TwoPages : Type 0
+TwoPages =
+    IsScene two_pages x_declared
+    (page_of_x (codes "q") (codes "/q") (act.Connect (var 0) Own [] ∷ act.Post (var 0) (codes "1") ∷ act.Disconnect (var 0) ∷ [])
+    ∷ page_of_x (codes "p") (codes "/p") (act.Listen (listens_to true) ∷ act.Take ∷ act.Take ∷ act.Take ∷ [])
+    ∷ [])
+
+-- variables are numbered in the order in which they are first bound
+abbrev pub NumberedVariables : Type 0
+NumberedVariables =
+    IsScene (extension_x ∷ codes "page p x /p" ∷ codes "  connect b own" ∷ codes "  connect a own" ∷ codes "  connect b own" ∷ codes "  post a 0" ∷ []) x_declared
+    (page_of_x (codes "p") (codes "/p") (act.Connect (var 0) Own [] ∷ act.Connect (var 1) Own [] ∷ act.Connect (var 0) Own [] ∷ act.Post (var 1) (codes "0") ∷ []) ∷ [])
+
+-- what is spelled as a line is read as that line
+abbrev pub ReadsTheSpelling : Type 0
+ReadsTheSpelling = (l : Line) → IsLine l → line_at (spelling l) ≡ Some l
+
+-- and only that: no other text is read as the line
+abbrev pub HasOneSpelling : Type 0
+HasOneSpelling = (text : List ℕ) (l : Line) → line_at text ≡ Some l → IsLine l × (text ≡ spelling l)

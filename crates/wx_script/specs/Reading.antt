@@ -1,0 +1,47 @@
+-- What the readers answer.
+use Rattle.std.specs.Prelude.{◌≡◌, ◌≤◌, ℕ, Bool, true, false, IsTrue, List, [], ◌∷◌, Option, Some, None, Result, Ok, Err, if◌then◌else◌}
+use Rattle.wx_script.specs.declared.scene.SceneFault.{SceneFault}
+use Rattle.wx_script.specs.declared.scene.SceneKind.{SceneKind}
+use Rattle.wx_script.specs.declared.scene.SceneKind.TheVariants as kind
+use Rattle.wx_script.specs.declared.scene.SceneReadFault.{SceneReadFault}
+use Rattle.wx_script.specs.declared.scene.SceneReadFault.TheVariants as fault
+use Rattle.wx_script.specs.Scene.{is_line_feed}
+
+-- the bytes up to the first line feed
+abbrev pub first_line : List ℕ → List ℕ
+first_line [] = []
+first_line (b ∷ bs) = if is_line_feed b then [] else b ∷ first_line bs
+
+-- what stands behind the first line feed, if there is one
+abbrev pub behind_line : List ℕ → Option (List ℕ)
+behind_line [] = None
+behind_line (b ∷ bs) = if is_line_feed b then Some bs else behind_line bs
+
+abbrev pub FailsAs : {A : Type 0} → SceneReadFault → Result A SceneFault → Type 0
+FailsAs fault.NoMemory read = Unit {0}
+FailsAs (fault.Bad f) read = read ≡ Err f
+
+-- what is read is this, unless memory ran out
+abbrev pub Reads : {A B : Type 0} → B → Result A SceneReadFault → Result B SceneFault → Type 0
+Reads value (Ok x) read = read ≡ Ok value
+Reads value (Err e) read = FailsAs e read
+
+-- the result is what is read, unless memory ran out
+abbrev pub ReadsIt : {A : Type 0} → Result A SceneReadFault → Result A SceneFault → Type 0
+ReadsIt (Ok x) read = read ≡ Ok x
+ReadsIt (Err e) read = FailsAs e read
+
+-- a kind that a line can have: a file that is missing or too large has no faulty line
+abbrev pub is_of_a_line : SceneKind → Bool
+is_of_a_line kind.Missing = false
+is_of_a_line kind.Large = false
+is_of_a_line _ = true
+
+-- lines are numbered from 1
+pub record IsOfALine (f : SceneFault) : Type 0 where
+  pub line : 1 ≤ f.line
+  pub kind : IsTrue (is_of_a_line f.kind)
+
+abbrev pub NamesALine : SceneReadFault → Type 0
+NamesALine fault.NoMemory = Unit {0}
+NamesALine (fault.Bad f) = IsOfALine f

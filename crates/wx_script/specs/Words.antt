@@ -1,0 +1,37 @@
+-- The words of a line, and which bytes each sort of word has.
+use Rattle.std.specs.Prelude.{ℕ, Bool, false, ◌&&◌, ◌||◌, not, List, [], ◌∷◌, length, Option, Some, None, ◌==◌, nat_lt, nat_le, codes, if◌then◌else◌}
+use Rattle.std.specs.List.{list_all}
+use Rattle.std.specs.Str.{bytes_eq}
+use Rattle.wx_machine.specs.Texts.{is_digit, is_printable}
+
+-- the bytes up to the first space
+abbrev pub word : List ℕ → List ℕ
+word [] = []
+word (b ∷ bs) = if b == 32 then [] else b ∷ word bs
+
+-- what stands behind the first space, if there is one
+abbrev pub rest : List ℕ → Option (List ℕ)
+rest [] = None
+rest (b ∷ bs) = if b == 32 then Some bs else rest bs
+
+-- `a` to `z`
+abbrev pub is_letter : ℕ → Bool
+is_letter b = nat_le 97 b && nat_le b 122
+
+-- `a` to `z`, `0` to `9`, `_`
+abbrev pub is_name_byte : ℕ → Bool
+is_name_byte b = is_letter b || is_digit b || b == 95
+
+-- a letter, and up to 31 bytes more
+abbrev pub is_identifier : List ℕ → Bool
+is_identifier [] = false
+is_identifier (b ∷ bs) = is_letter b && list_all is_name_byte bs && nat_lt (length bs) 32
+
+-- the name of an extension, an endpoint or a variable: `same` is none
+abbrev pub is_name : List ℕ → Bool
+is_name text = is_identifier text && not (bytes_eq text (codes "same"))
+
+-- the word that stands for an id: one or more printable bytes
+abbrev pub is_id_word : List ℕ → Bool
+is_id_word [] = false
+is_id_word (b ∷ bs) = is_printable (b ∷ bs)

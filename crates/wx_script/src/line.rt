@@ -1,0 +1,161 @@
+ghost use Rattle.std.specs.Prelude.{◌≡◌, IfSome, IfNone};
+ghost use Rattle.std.specs.Option.{option_map};
+ghost use Rattle.wx_script.specs.Line as forms;
+ghost use Rattle.wx_script.specs.Spelling.{spelling, IsLine};
+ghost use Rattle.wx_script.specs.View.{command_view, line_view};
+
+use crate::word::{is_id_word, is_number, name, name_and_rest, path, split_word};
+use wx_machine::Listens;
+
+/// A command with the names of its variables.
+#[derive(Clone, Copy)]
+pub(crate) enum Command<'a> {
+    Listen(Listens),
+    Connect(&'a str),
+    Post(&'a str, &'a [u8]),
+    Disconnect(&'a str),
+    Take,
+}
+
+/// A line of a scene behind its head line.
+#[derive(Clone, Copy)]
+pub(crate) enum Line<'a> {
+    Extension(&'a str, &'a [u8]),
+    Page(&'a str, &'a str, &'a str),
+    Script(Command<'a>),
+}
+
+#[tactic(auto, unfolding(crate::specs::Line::extension_at))]
+fn extension_of(text: &[u8]) -> Option<Line<'_>>
+    ensures { option_map line_view result ≡ forms.extension_at text.now }
+{
+    let (name, id) = name_and_rest(text)?;
+    if is_id_word(id) {
+        Some(Line::Extension(name, id))
+    } else {
+        None
+    }
+}
+
+#[tactic(auto, unfolding(crate::specs::Line::page_at))]
+fn page_of(text: &[u8]) -> Option<Line<'_>>
+    ensures { option_map line_view result ≡ forms.page_at text.now }
+{
+    let (name, rest) = name_and_rest(text)?;
+    let (ext, word) = name_and_rest(rest)?;
+    let path = path(word)?;
+    Some(Line::Page(name, ext, path))
+}
+
+fn listens_to(connect: bool) -> Listens
+    ensures { result ≡ forms.listens_to connect }
+{
+    Listens {
+        connect,
+        message: false,
+        external_connect: false,
+        external_message: false,
+    }
+}
+
+#[tactic(auto, unfolding(crate::specs::Line::listen_at))]
+fn listen_of(text: &[u8]) -> Option<Command<'_>>
+    ensures { option_map command_view result ≡ forms.listen_at text.now }
+{
+    if text == b"none".as_slice() {
+        Some(Command::Listen(listens_to(false)))
+    } else if text == b"connect".as_slice() {
+        Some(Command::Listen(listens_to(true)))
+    } else {
+        None
+    }
+}
+
+#[tactic(auto, unfolding(crate::specs::Line::connect_at))]
+fn connect_of(text: &[u8]) -> Option<Command<'_>>
+    ensures { option_map command_view result ≡ forms.connect_at text.now }
+{
+    let (var, target) = name_and_rest(text)?;
+    if target == b"own".as_slice() {
+        Some(Command::Connect(var))
+    } else {
+        None
+    }
+}
+
+#[tactic(auto, unfolding(crate::specs::Line::post_at))]
+fn post_of(text: &[u8]) -> Option<Command<'_>>
+    ensures { option_map command_view result ≡ forms.post_at text.now }
+{
+    let (var, number) = name_and_rest(text)?;
+    if is_number(number) {
+        Some(Command::Post(var, number))
+    } else {
+        None
+    }
+}
+
+#[tactic(auto, unfolding(crate::specs::Line::disconnect_at))]
+fn disconnect_of(text: &[u8]) -> Option<Command<'_>>
+    ensures { option_map command_view result ≡ forms.disconnect_at text.now }
+{
+    Some(Command::Disconnect(name(text)?))
+}
+
+#[tactic(auto, unfolding(crate::specs::Line::command_at, crate::specs::Line::command_with))]
+fn command_of(text: &[u8]) -> Option<Command<'_>>
+    ensures { option_map command_view result ≡ forms.command_at text.now }
+{
+    if text == b"take".as_slice() {
+        return Some(Command::Take);
+    }
+    let (word, rest) = split_word(text);
+    let rest = rest?;
+    if word == b"listen".as_slice() {
+        listen_of(rest)
+    } else if word == b"connect".as_slice() {
+        connect_of(rest)
+    } else if word == b"post".as_slice() {
+        post_of(rest)
+    } else if word == b"disconnect".as_slice() {
+        disconnect_of(rest)
+    } else {
+        None
+    }
+}
+
+#[tactic(auto, unfolding(crate::specs::Line::declaration_at, crate::specs::Line::declaration_with))]
+fn declaration_of(text: &[u8]) -> Option<Line<'_>>
+    ensures { option_map line_view result ≡ forms.declaration_at text.now }
+{
+    let (word, rest) = split_word(text);
+    let rest = rest?;
+    if word == b"extension".as_slice() {
+        extension_of(rest)
+    } else if word == b"page".as_slice() {
+        page_of(rest)
+    } else {
+        None
+    }
+}
+
+#[tactic(auto, unfolding(crate::specs::Line::line_at))]
+fn read_line(text: &[u8]) -> Option<Line<'_>>
+    ensures { option_map line_view result ≡ forms.line_at text.now }
+{
+    match text.strip_prefix(b"  ") {
+        Some(command) => Some(Line::Script(command_of(command)?)),
+        None => declaration_of(text),
+    }
+}
+
+/// The line that a text is.
+pub(crate) fn line_of(text: &[u8]) -> Option<Line<'_>>
+    ensures exact { option_map line_view result ≡ forms.line_at text.now }
+    // What is read is spelled so,
+    ensures found { IfSome result (λ line. IsLine (line_view line) × (text.now ≡ spelling (line_view line))) }
+    // and what is spelled so is read.
+    ensures none { IfNone result ((line : forms.Line) → IsLine line → text.now ≡ spelling line → ⊥) }
+{
+    read_line(text)
+}
