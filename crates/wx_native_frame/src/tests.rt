@@ -156,9 +156,12 @@ fn streams(rt: HostRuntime) -> Result<(), Fail> {
     Ok(())
 }
 
+fn crosses_threads<T: Send + Sync>(_value: &T) {}
+
 #[test]
 fn bytes_behind_a_frame_stay(rt: HostRuntime) -> Result<(), Fail> {
     let mut reader = FrameReader::new(rt.alloc(), 1_048_576);
+    crosses_threads(&reader);
     for (piece, used, text, wanted) in [
         (
             b"\x02\x00\x00\x00{}\x01\x00\x00\x001" as &[u8],
