@@ -24,6 +24,7 @@ pub enum FrameFault {
     TooLong { len: u32 },
     /// The text is no JSON text. The place is counted in the text.
     BadJson(JsonFault),
+    /// There is no memory for the text. The reader can go on.
     NoMemory,
 }
 
