@@ -1,0 +1,4 @@
+pub mod Frames
+pub mod Splits
+pub mod Head
+pub mod Reader
