@@ -12,5 +12,5 @@ mod world;
 pub use contexts::{Context, Listens, Target};
 pub use entries::{Answer, Call, Entry, Who};
 pub use texts::{PagePath, PathFault};
-pub use wx_json::JsonText;
 pub use world::World;
+pub use wx_json::JsonText;
