@@ -22,25 +22,29 @@ IsUntouched sink = sink.after ≡ sink.before
 abbrev pub Gained : SinkChange → List ℕ → Type 0
 Gained sink bytes = sink.after ≡ added sink.before bytes
 
--- these bytes were tried: a front of them was written
-abbrev pub WasTried : SinkChange → List ℕ → Type 0
-WasTried sink bytes = AddsFront sink.before sink.after bytes
+-- a front of these bytes was written
+abbrev pub GainedFront : SinkChange → List ℕ → Type 0
+GainedFront sink bytes = AddsFront sink.before sink.after bytes
 
 -- a write failed in the call
 abbrev pub HasFailed : SinkChange → Type 0
 HasFailed sink = Rose sink.faults_before sink.faults_after
 
+-- these bytes were tried: they were written, or a front of them and that write failed
+abbrev pub WasTried : SinkChange → List ℕ → Type 0
+WasTried sink bytes = Gained sink bytes ⊎ (GainedFront sink bytes × HasFailed sink)
+
 -- The line of an answer was written on `err`, or that write failed.
 abbrev pub LineTold : Status → List ℕ → SinkChange → Status → Type 0
 LineTold answer line err result =
     ((result ≡ answer) × Gained err line)
-    ⊎ ((result ≡ status.WriteFault) × WasTried err line × HasFailed err)
+    ⊎ ((result ≡ status.WriteFault) × GainedFront err line × HasFailed err)
 
 -- The text of a run was written on `out` and nothing on `err`, or that write failed, of which a line was tried.
 abbrev pub ToldText : List ℕ → SinkChange → SinkChange → Status → Type 0
 ToldText text out err result =
     ((result ≡ status.Done) × Gained out text × IsUntouched err)
-    ⊎ ((result ≡ status.WriteFault) × WasTried out text × HasFailed out × WasTried err write_fault_line)
+    ⊎ ((result ≡ status.WriteFault) × GainedFront out text × HasFailed out × WasTried err write_fault_line)
 
 -- Want of memory: its line was tried.
 abbrev pub ToldNoMemory : SinkChange → Status → Type 0

@@ -1,6 +1,7 @@
 ghost use Rattle.std.specs.Prelude.{◌≡◌, ◌⊎◌};
 ghost use Rattle.wx_cmd.specs.declared.status.Status.TheVariants as status;
-ghost use Rattle.wx_cmd.specs.Told.{Told, ToldText, ToldNoMemory, LineTold};
+ghost use Rattle.wx_cmd.specs.Lines.{write_fault_line};
+ghost use Rattle.wx_cmd.specs.Told.{Told, ToldText, ToldNoMemory, LineTold, WasTried};
 ghost use Rattle.wx_cmd.specs.Verdict.{no_memory};
 ghost use Rattle.wx_cmd.specs.View.{verdict_view};
 
@@ -49,8 +50,21 @@ fn tell_line<E: Sink>(answer: Status, line: &[u8], err: &mut E) -> Status
 fn tell_no_memory<E: Sink>(err: &mut E) -> Status
     ensures { ToldNoMemory (record { before = E.written err.old; after = E.written err.new; faults_before = E.faults err.old; faults_after = E.faults err.new }) result }
 {
-    let _ = err.write(b"wx: no memory\n");
-    Status::NoMemory
+    match err.write(b"wx: no memory\n") {
+        Ok(()) => Status::NoMemory,
+        Err(Failed) => Status::NoMemory,
+    }
+}
+
+/// Tries the line of a failed write.
+fn tell_write_fault<E: Sink>(err: &mut E) -> Status
+    ensures is { result ≡ status.WriteFault }
+    ensures tried { WasTried (record { before = E.written err.old; after = E.written err.new; faults_before = E.faults err.old; faults_after = E.faults err.new }) write_fault_line }
+{
+    match err.write(b"wx: write fault\n") {
+        Ok(()) => Status::WriteFault,
+        Err(Failed) => Status::WriteFault,
+    }
 }
 
 /// Writes the text of a run.
@@ -61,10 +75,7 @@ fn tell_text<O: Sink, E: Sink>(text: &[u8], out: &mut O, err: &mut E) -> Status
 {
     match out.write(text) {
         Ok(()) => Status::Done,
-        Err(Failed) => {
-            let _ = err.write(b"wx: write fault\n");
-            Status::WriteFault
-        }
+        Err(Failed) => tell_write_fault(err),
     }
 }
 

@@ -6,7 +6,7 @@ use wx_id::{ExtensionId, NoMemory};
 /// A context that makes calls.
 #[derive(Debug, Drop)]
 pub enum Context {
-    /// A page of an extension, as its service worker or popup.
+    /// A page of an extension, as its popup, or its service worker.
     Page { ext: ExtensionId, path: PagePath },
 }
 
@@ -28,9 +28,13 @@ impl Context {
 /// `onMessageExternal`.
 #[derive(Clone, Copy, Debug, PartialEq, Eq)]
 pub struct Listens {
+    /// To connections from its own extension.
     pub connect: bool,
+    /// To messages from its own extension.
     pub message: bool,
+    /// To connections from elsewhere.
     pub external_connect: bool,
+    /// To messages from elsewhere.
     pub external_message: bool,
 }
 

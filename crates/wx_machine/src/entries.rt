@@ -5,6 +5,7 @@ use wx_json::JsonText;
 /// Who makes a call.
 #[derive(Clone, Copy, Debug, PartialEq, Eq)]
 pub enum Who {
+    /// The context with this number.
     Context(ContextNo),
 }
 
@@ -36,6 +37,7 @@ pub enum Answer {
     Channel(ChannelNo),
     /// The event that was taken.
     Event(Event),
+    /// The call was made.
     Done,
     /// The caller does not live.
     Gone,
@@ -58,7 +60,10 @@ pub enum Answer {
 /// A call, who made it, and its answer.
 #[derive(Debug, Drop)]
 pub struct Entry {
+    /// Who made the call.
     pub who: Who,
+    /// The call.
     pub call: Call,
+    /// What it was answered.
     pub answer: Answer,
 }

@@ -27,6 +27,7 @@ impl Model for PagePath {
 pub enum PathFault {
     /// It is no path.
     BadPath,
+    /// Memory was refused.
     NoMemory,
 }
 
@@ -51,6 +52,7 @@ impl PagePath {
     pub fn read(alloc: Global, text: &str) -> Result<PagePath, PathFault>
         ensures ok { IfOk result (λ path. (path ≡ text.now) × IsTrue (texts.is_page_path text.now)) }
         ensures bad { result ≡ Err PathFault.BadPath → texts.is_page_path text.now ≡ false }
+        ensures memory { result ≡ Err PathFault.NoMemory → IsTrue (texts.is_page_path text.now) }
     {
         if !is_page_path(text.as_bytes()) {
             return Err(PathFault::BadPath);

@@ -8,15 +8,20 @@ use wx_machine::Context;
 /// An extension that a scene declares.
 #[derive(Debug, Drop)]
 pub struct SceneExtension {
+    /// The name that scene lines use.
     pub name: Utf8Text,
+    /// Its id.
     pub id: ExtensionId,
 }
 
 /// A context that a scene declares, with its script.
 #[derive(Debug, Drop)]
 pub struct SceneEndpoint {
+    /// Its name in the scene.
     pub name: Utf8Text,
+    /// The context that enters.
     pub context: Context,
+    /// The calls that it makes.
     pub script: Script,
 }
 
@@ -57,7 +62,9 @@ pub struct SceneFault {
 /// Why bytes are not read as a scene.
 #[derive(Clone, Copy, Debug, PartialEq, Eq)]
 pub enum SceneReadFault {
+    /// The bytes are no scene.
     Bad(SceneFault),
+    /// Memory was refused.
     NoMemory,
 }
 

@@ -4,7 +4,7 @@ ghost use Rattle.std.specs.Option.{option_or};
 ghost use Rattle.std.specs.List.{list_any, range_with_len};
 ghost use Rattle.wx_machine.specs.Channels.{channels, channel, opens, end_in};
 ghost use Rattle.wx_machine.specs.Contexts.{is_by};
-ghost use Rattle.wx_machine.specs.Events.{message, disconnected_on, disconnected, delivered, taken, goes_to, is_dropped, drops_by, is_of, is_waiting, same_event, same_kind, event_in, pending, first, marked, on, is_receiving};
+ghost use Rattle.wx_machine.specs.Events.{connected, message, disconnected_on, disconnected, delivered, taken, goes_to, is_dropped, drops_by, is_of, is_waiting, same_event, same_kind, event_in, pending, first, marked, on, is_receiving};
 
 use crate::channels;
 use crate::channels::{end_at_opening, end_of};
@@ -223,6 +223,24 @@ fn waiting_disconnected(
     }
 }
 
+/// The opening of a channel that the entry tells context c, if it waits. Channels are counted only where one is.
+fn waiting_connected(
+    entries: &[Entry],
+    i: usize,
+    before: &[Entry],
+    e: &Entry,
+    c: ContextNo,
+) -> Option<Event>
+    ensures { result ≡ first (filter (is_waiting (reverse entries.now) c) (map (marked i) (connected (length (channels (reverse before.now))) (opens (reverse before.now) e.now) c))) }
+{
+    if is_told_connected(before, e, c) {
+        let k = ChannelNo(channels::count(before));
+        waiting_if(true, entries, i, c, EventKind::Connected(k))
+    } else {
+        None
+    }
+}
+
 /// The first event that the entry i delivers to context c and that waits.
 #[tactic(auto, using(crate::proofs::EventsLater::delivered_first))]
 fn waiting_of(
@@ -235,13 +253,7 @@ fn waiting_of(
     requires { i ≡ length before.now }
     ensures { result ≡ first (filter (is_waiting (reverse entries.now) c) (delivered (reverse before.now) e.now c)) }
 {
-    let opened = waiting_if(
-        is_told_connected(before, e, c),
-        entries,
-        i,
-        c,
-        EventKind::Connected(ChannelNo(channels::count(before))),
-    );
+    let opened = waiting_connected(entries, i, before, e, c);
     let posted = waiting_message(entries, i, before, e, c);
     let ended = waiting_disconnected(entries, i, before, e, c);
     first_of(first_of(opened, posted), ended)
