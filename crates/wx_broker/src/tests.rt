@@ -287,3 +287,10 @@ fn gone_after_a_leave(rt: HostRuntime) -> Result<(), Fail> {
     }
     Ok(())
 }
+
+fn crosses_threads<T: Send + Sync>() {}
+
+#[test]
+fn types_cross_threads(_rt: HostRuntime) {
+    crosses_threads::<crate::Broker>();
+}

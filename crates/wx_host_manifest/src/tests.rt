@@ -207,3 +207,11 @@ fn what_a_manifest_holds(rt: HostRuntime) -> Result<(), Fail> {
     assert!(rt; arguments.get(1).is_none());
     Ok(())
 }
+
+fn crosses_threads<T: Send + Sync>() {}
+
+#[test]
+fn types_cross_threads(_rt: HostRuntime) {
+    crosses_threads::<crate::HostManifest>();
+    crosses_threads::<crate::Arguments>();
+}

@@ -60,3 +60,10 @@ fn journal_and_text(rt: HostRuntime) -> Result<(), Fail> {
     }
     Ok(())
 }
+
+fn crosses_threads<T: Send + Sync>() {}
+
+#[test]
+fn types_cross_threads(_rt: HostRuntime) {
+    crosses_threads::<crate::Journal>();
+}

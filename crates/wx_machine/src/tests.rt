@@ -44,3 +44,16 @@ fn equal_contexts(rt: HostRuntime) {
         None => assert!(rt; false),
     }
 }
+
+fn crosses_threads<T: Send + Sync>() {}
+
+#[test]
+fn types_cross_threads(_rt: HostRuntime) {
+    crosses_threads::<wx_id::Utf8Text>();
+    crosses_threads::<wx_id::ExtensionId>();
+    crosses_threads::<wx_json::JsonText>();
+    crosses_threads::<crate::Context>();
+    crosses_threads::<crate::Call>();
+    crosses_threads::<crate::Entry>();
+    crosses_threads::<crate::World>();
+}

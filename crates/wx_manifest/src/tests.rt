@@ -272,3 +272,10 @@ fn what_a_manifest_holds(rt: HostRuntime) -> Result<(), Fail> {
     assert!(rt; !plain.native());
     Ok(())
 }
+
+fn crosses_threads<T: Send + Sync>() {}
+
+#[test]
+fn types_cross_threads(_rt: HostRuntime) {
+    crosses_threads::<crate::Extension>();
+}

@@ -40,3 +40,10 @@ fn worked_runs(rt: HostRuntime) -> Result<(), Fail> {
     }
     Ok(())
 }
+
+fn crosses_threads<T: Send + Sync>() {}
+
+#[test]
+fn types_cross_threads(_rt: HostRuntime) {
+    crosses_threads::<crate::Cursor<'static>>();
+}

@@ -213,3 +213,11 @@ fn two_pages(rt: HostRuntime) {
         _ => assert!(rt; false),
     }
 }
+
+fn crosses_threads<T: Send + Sync>() {}
+
+#[test]
+fn types_cross_threads(_rt: HostRuntime) {
+    crosses_threads::<crate::Scene>();
+    crosses_threads::<crate::Script>();
+}
