@@ -82,7 +82,7 @@ fn memory_is_not_refused(rt: HostRuntime) -> Result<(), Fail> {
 }
 
 /// Scenes, and the journals that the rules of the broker and the order of rounds give by hand.
-const SCENES: [(&str, &str); 7] = [
+const SCENES: [(&str, &str); 8] = [
     // Two pages without scripts: both come in, and each leaves in the first round.
     (
         "wx scene 1 chrome
