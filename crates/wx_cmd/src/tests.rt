@@ -125,15 +125,18 @@ c0 leave -> done
 c1 leave -> done
 ",
     ),
-    // A message is carried as it stands.
+    // The same with another message, which is carried as it stands.
     (
         "wx scene 1 chrome
 extension x aaaaaaaaaaaaaaaaaaaaaaaaaaaaaaaa
 page q x /q
   connect ch own
   post ch [1, \"x\"]
+  disconnect ch
 page p x /p
   listen connect
+  take
+  take
   take
 ",
         "wx journal 1 chrome
@@ -143,8 +146,11 @@ c1 listen c--- -> done
 c0 connect own 0: -> channel 0
 c1 take -> connected 0 3
 c0 post 0 8:[1, \"x\"] -> posted
-c1 leave -> done
+c1 take -> message 0 5
+c0 disconnect 0 -> done
+c1 take -> disconnected 0 7
 c0 leave -> done
+c1 leave -> done
 ",
     ),
     // A page does not connect to itself, and the post without a channel is passed over.
