@@ -1,6 +1,6 @@
 ghost use Rattle.std.specs.Prelude.{◌≡◌, ◌+◌, ◌<◌, ◌≤◌, [], ◌∷◌, ◌++◌, length, IfOk, IfErr, OnOk, OnErr, IsOk, slice_get, option_copied, ◌==◌};
 ghost use Rattle.std.specs.Option.{option_and_then};
-ghost use Rattle.wx_journal.specs.Journal.{text_in};
+ghost use Rattle.wx_machine.specs.Carried.{text_in};
 ghost use Rattle.wx_journal.specs.Text.{journal_text};
 
 use crate::print::print;

@@ -1,5 +1,5 @@
 -- What each entry delivers, and which events are pending for a context.
-use Rattle.std.specs.Prelude.{ℕ, length, List, [], ◌∷◌, ◌++◌, map, Bool, true, false, not, ◌&&◌, ◌||◌, cond, Option, Some, None, ◌==◌, nat_lt, filter, flat_map}
+use Rattle.std.specs.Prelude.{ℕ, length, List, [], ◌∷◌, ◌++◌, map, Bool, true, false, not, ◌&&◌, ◌||◌, cond, Option, Some, None, is_some, ◌==◌, nat_lt, filter, flat_map}
 use Rattle.std.specs.List.{list_any, range_with_len}
 use Rattle.wx_id.specs.declared.numbers.ContextNo.{ContextNo}
 use Rattle.wx_id.specs.declared.events.Event.{Event}
@@ -123,3 +123,7 @@ pending past c = filter (is_waiting past c) (queued past c)
 abbrev pub first : List Event → Option Event
 first [] = None
 first (event ∷ events) = Some event
+
+-- an event is pending for context c, which lives
+abbrev pub has_pending : List Entry → ContextNo → Bool
+has_pending past c = is_live past c && is_some (first (pending past c))

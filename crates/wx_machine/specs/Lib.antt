@@ -1,5 +1,6 @@
 pub mod Texts
 pub mod Each
+pub mod Carried
 pub mod Contexts
 pub mod Channels
 pub mod Events

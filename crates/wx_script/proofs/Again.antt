@@ -5,8 +5,8 @@ use Rattle.std.specs.Prelude.{IsTrue, codes}
 use Rattle.wx_machine.specs.declared.contexts.Listens.{Listens}
 use Rattle.wx_machine.specs.Texts.{is_page_path}
 use Rattle.wx_script.specs.Words.{word, rest, is_name, is_id_word, is_given}
-use Rattle.wx_script.specs.Line.{Command, Line, listen, connect, post, disconnect, take_one, extension, page, script, listens_to, where_so, ◌>>=◌, name_at, extension_at, page_at, listen_at, connect_at, post_at, disconnect_at, command_with, command_at, declaration_with, declaration_at, line_at}
-use Rattle.wx_script.specs.Spelling.{◌␣◌, flags, spelling, command_spelling, IsLine, IsCommand}
+use Rattle.wx_script.specs.Line.{NamedAct, Line, listen, connect, post, disconnect, take_one, extension, page, script, listens_to, where_so, ◌>>=◌, name_at, extension_at, page_at, listen_at, connect_at, post_at, disconnect_at, command_with, command_at, declaration_with, declaration_at, line_at}
+use Rattle.wx_script.specs.Spelling.{◌␣◌, flags, spelling, command_spelling, IsLine, IsNamedAct}
 use Rattle.wx_script.proofs.WordLemmas.{word-append, rest-append, name_no_space}
 
 name_again : (name more : List ℕ) → IsTrue (is_name name) → name_at (name ␣ more) ≡ Some (name, more)
@@ -26,14 +26,14 @@ unfolding listen_at
 flags_again false = refl
 flags_again true = refl
 
-listen_again : (l : Listens) → IsCommand (listen l) → listen_at (flags l.connect) ≡ Some (listen l)
+listen_again : (l : Listens) → IsNamedAct (listen l) → listen_at (flags l.connect) ≡ Some (listen l)
 listen_again l h = flags_again l.connect ∙ ap (λ l. Some (listen l)) (sym h)
 
 connect_again : (var : List ℕ) → IsTrue (is_name var) → connect_at (var ␣ codes "own") ≡ Some (connect var)
 unfolding connect_at
 connect_again var h = rw (name_again var (codes "own") h) refl
 
-post_again : (var number : List ℕ) → IsCommand (post var number) → post_at (var ␣ number) ≡ Some (post var number)
+post_again : (var number : List ℕ) → IsNamedAct (post var number) → post_at (var ␣ number) ≡ Some (post var number)
 unfolding post_at
 post_again var number h = rw (name_again var number h.0, h.1) refl
 
@@ -41,7 +41,7 @@ disconnect_again : (var : List ℕ) → IsTrue (is_name var) → disconnect_at v
 unfolding disconnect_at
 disconnect_again var h = rw (h) refl
 
-pub command_again : (c : Command) → IsCommand c → command_at (command_spelling c) ≡ Some c
+pub command_again : (c : NamedAct) → IsNamedAct c → command_at (command_spelling c) ≡ Some c
 unfolding command_at command_with listen_at
 command_again (listen l) h = listen_again l h
 command_again (connect var) h = connect_again var h

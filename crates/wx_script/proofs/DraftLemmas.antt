@@ -7,15 +7,16 @@ use Rattle.std.specs.Prelude.{slice_get, Option, Some, None, nat_le, not, ◌==�
 use Rattle.std.proofs.Common.{cond}
 use Rattle.std.proofs.lemmas.Bool.Decides.{nat_tests}
 use Rattle.wx_script.specs.declared.scene.SceneKind.{SceneKind}
-use Rattle.wx_script.specs.Line.{Command, Line, listen, connect, post, disconnect, take_one, extension, page, script}
+use Rattle.wx_script.specs.Line.{NamedAct, Line, listen, connect, post, disconnect, take_one, extension, page, script}
 use Rattle.wx_script.specs.Names.{has_extension, has_endpoint, id_under, place_in}
 use Rattle.wx_id.specs.Ids.{is_extension_id}
+use Rattle.wx_script.specs.declared.script.Command.TheVariants.{Plain}
 use Rattle.wx_script.specs.Draft.{Draft, fresh, with_act, commands, extension_added, page_with, page_added, act_of, act_added, binding, channels_after, command_added, line_added, HasRoom}
 
 pub with_act-set : (a : Act) (es : List SceneEndpoint) (n : ℕ) (x : SceneEndpoint) → n + 1 ≡ length es → x ≡ get_or es n x
-    → set es n (record x { script = x.script ++ a ∷ [] }) ≡ with_act a es
+    → set es n (record x { script = x.script ++ Plain a ∷ [] }) ≡ with_act a es
 with_act-set a [] n x at is = absurd (omega arith)
-with_act-set a (e ∷ []) zero x at is = let f : SceneEndpoint → List SceneEndpoint = λ x. record x { script = x.script ++ a ∷ [] } ∷ [] in ap f is
+with_act-set a (e ∷ []) zero x at is = let f : SceneEndpoint → List SceneEndpoint = λ x. record x { script = x.script ++ Plain a ∷ [] } ∷ [] in ap f is
 with_act-set a (e ∷ []) (suc n) x at is = absurd (omega arith)
 with_act-set a (e ∷ f ∷ es) zero x at is = absurd (omega arith)
 with_act-set a (e ∷ f ∷ es) (suc n) x at is = ap (λ t. e ∷ t) (with_act-set a (f ∷ es) n x (omega arith) is)
@@ -46,8 +47,8 @@ length-snoc (y ∷ xs) x = omega (arith, length-snoc xs x)
 
 pub commands-with_act : (a : Act) (es : List SceneEndpoint) → 0 < length es → commands (with_act a es) ≡ commands es + 1
 commands-with_act a [] h = absurd (omega (arith, h))
-commands-with_act a (e ∷ []) h = length-snoc e.script a
-commands-with_act a (e ∷ f ∷ []) h = length-snoc f.script a
+commands-with_act a (e ∷ []) h = length-snoc e.script (Plain a)
+commands-with_act a (e ∷ f ∷ []) h = length-snoc f.script (Plain a)
 commands-with_act a (e ∷ f ∷ g ∷ es) h = commands-with_act a (f ∷ g ∷ es) (omega arith)
 
 length-binding : (name : List ℕ) (channels : List (List ℕ)) → length (binding name channels) ≤ length channels + 1
@@ -57,7 +58,7 @@ length-binding name channels =
       | false ↦ omega (arith, length-snoc channels name)
     ]
 
-pub length-channels_after : (channels : List (List ℕ)) (c : Command) → length (channels_after channels c) ≤ length channels + 1
+pub length-channels_after : (channels : List (List ℕ)) (c : NamedAct) → length (channels_after channels c) ≤ length channels + 1
 length-channels_after channels (connect name) = length-binding name channels
 length-channels_after channels (listen l) = omega arith
 length-channels_after channels (post name number) = omega arith

@@ -11,7 +11,7 @@ use Rattle.wx_script.specs.declared.scene.SceneFault.{SceneFault}
 use Rattle.wx_script.specs.declared.scene.SceneReadFault.{SceneReadFault}
 use Rattle.wx_script.specs.declared.scene.SceneReadFault.TheVariants as fault
 use Rattle.wx_script.specs.SceneValue.{SceneValue}
-use Rattle.wx_script.specs.Line.{Command, Line, listen, connect, post, disconnect, take_one, extension, page, script, line_at}
+use Rattle.wx_script.specs.Line.{NamedAct, Line, listen, connect, post, disconnect, take_one, extension, page, script, line_at}
 use Rattle.wx_script.specs.Names.{has_extension, has_endpoint, id_under, place_in}
 use Rattle.wx_json.specs.Test.{is_json_text}
 use Rattle.wx_script.specs.Draft.{Draft, fresh, extension_added, page_with, page_added, act_of, act_added, where_bound, channels_after, command_added, commands, line_added}
@@ -33,7 +33,7 @@ of_where_bound : (n : Option ℕ) (f : ℕ → Result Act SceneKind) → ((n : �
 of_where_bound None f h = refl
 of_where_bound (Some n) f h = h n
 
-of_act_of : (channels : List (List ℕ)) (c : Command) → OfALine (act_of channels c)
+of_act_of : (channels : List (List ℕ)) (c : NamedAct) → OfALine (act_of channels c)
 of_act_of channels (listen l) = tt
 of_act_of channels (connect name) = tt
 of_act_of channels (post name text) = of_where_bound (place_in name channels) _ (λ n. of_choice (is_json_text text) _ _ tt refl)

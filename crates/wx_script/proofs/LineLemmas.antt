@@ -10,8 +10,8 @@ use Rattle.std.proofs.lemmas.Slice.Eq.{bytes_eq-Decides}
 use Rattle.wx_machine.specs.declared.contexts.Listens.{Listens}
 use Rattle.wx_machine.specs.Texts.{is_page_path}
 use Rattle.wx_script.specs.Words.{word, rest, is_name, is_id_word, is_given}
-use Rattle.wx_script.specs.Line.{Command, Line, listen, connect, post, disconnect, take_one, extension, page, script, listens_to, where_so, ◌>>=◌, name_at, extension_at, page_at, listen_at, connect_at, post_at, disconnect_at, command_with, command_at, declaration_with, declaration_at, line_at}
-use Rattle.wx_script.specs.Spelling.{◌␣◌, flags, spelling, command_spelling, IsLine, IsCommand}
+use Rattle.wx_script.specs.Line.{NamedAct, Line, listen, connect, post, disconnect, take_one, extension, page, script, listens_to, where_so, ◌>>=◌, name_at, extension_at, page_at, listen_at, connect_at, post_at, disconnect_at, command_with, command_at, declaration_with, declaration_at, line_at}
+use Rattle.wx_script.specs.Spelling.{◌␣◌, flags, spelling, command_spelling, IsLine, IsNamedAct}
 use Rattle.wx_script.proofs.WordLemmas.{two_parts}
 
 bind_some : {A B : Type 0} (r : Option A) (f : A → Option B) (y : B) → (r >>= f) ≡ Some y → (x : A) × (r ≡ Some x) × (f x ≡ Some y)
@@ -28,8 +28,8 @@ pub record IsReadAs (l : Line) (text : List ℕ) : Type 0 where
   pub is_line : IsLine l
   pub spelled : text ≡ spelling l
 
-pub record IsReadAsCommand (c : Command) (text : List ℕ) : Type 0 where
-  pub is_command : IsCommand c
+pub record IsReadAsCommand (c : NamedAct) (text : List ℕ) : Type 0 where
+  pub is_command : IsNamedAct c
   pub spelled : text ≡ command_spelling c
 
 record IsNamed (name more text : List ℕ) : Type 0 where
@@ -72,7 +72,7 @@ page_read text l e =
 same : (xs ys : List ℕ) → bytes_eq xs ys ≡ true → xs ≡ ys
 same xs ys e = (bytes_eq-Decides xs ys).0 e
 
-listen_read : (text : List ℕ) (c : Command) → listen_at text ≡ Some c → IsReadAsCommand c (codes "listen" ␣ text)
+listen_read : (text : List ℕ) (c : NamedAct) → listen_at text ≡ Some c → IsReadAsCommand c (codes "listen" ␣ text)
 unfolding listen_at
 listen_read text c e =
     elim (chosen (bytes_eq text (codes "none")) _ _ _ e) [
@@ -83,7 +83,7 @@ listen_read text c e =
       ]
     ]
 
-connect_read : (text : List ℕ) (c : Command) → connect_at text ≡ Some c → IsReadAsCommand c (codes "connect" ␣ text)
+connect_read : (text : List ℕ) (c : NamedAct) → connect_at text ≡ Some c → IsReadAsCommand c (codes "connect" ␣ text)
 unfolding connect_at
 connect_read text c e =
     let p = bind_some (name_at text) _ c e in
@@ -92,7 +92,7 @@ connect_read text c e =
     subst (λ c. IsReadAsCommand c (codes "connect" ␣ text)) q.1
     (record { is_command = n.is_named; spelled = ap (λ t. codes "connect" ␣ t) (n.spelled ∙ ap (λ t. p.0.0 ␣ t) (same _ _ q.0)) })
 
-post_read : (text : List ℕ) (c : Command) → post_at text ≡ Some c → IsReadAsCommand c (codes "post" ␣ text)
+post_read : (text : List ℕ) (c : NamedAct) → post_at text ≡ Some c → IsReadAsCommand c (codes "post" ␣ text)
 unfolding post_at
 post_read text c e =
     let p = bind_some (name_at text) _ c e in
@@ -101,13 +101,13 @@ post_read text c e =
     subst (λ c. IsReadAsCommand c (codes "post" ␣ text)) q.1
     (record { is_command = (n.is_named, q.0); spelled = ap (λ t. codes "post" ␣ t) n.spelled })
 
-disconnect_read : (text : List ℕ) (c : Command) → disconnect_at text ≡ Some c → IsReadAsCommand c (codes "disconnect" ␣ text)
+disconnect_read : (text : List ℕ) (c : NamedAct) → disconnect_at text ≡ Some c → IsReadAsCommand c (codes "disconnect" ␣ text)
 unfolding disconnect_at
 disconnect_read text c e =
     let q = cond_some _ _ _ e in
     subst (λ c. IsReadAsCommand c (codes "disconnect" ␣ text)) q.1 (record { is_command = q.0; spelled = refl })
 
-command_with_read : (head text : List ℕ) (c : Command) → command_with head text ≡ Some c → IsReadAsCommand c (head ␣ text)
+command_with_read : (head text : List ℕ) (c : NamedAct) → command_with head text ≡ Some c → IsReadAsCommand c (head ␣ text)
 unfolding command_with
 command_with_read head text c e =
     elim (chosen (bytes_eq head (codes "listen")) _ _ _ e) [
@@ -124,7 +124,7 @@ command_with_read head text c e =
       ]
     ]
 
-pub command_read : (text : List ℕ) (c : Command) → command_at text ≡ Some c → IsReadAsCommand c text
+pub command_read : (text : List ℕ) (c : NamedAct) → command_at text ≡ Some c → IsReadAsCommand c text
 unfolding command_at
 command_read text c e =
     elim (chosen (bytes_eq text (codes "take")) _ _ _ e) [

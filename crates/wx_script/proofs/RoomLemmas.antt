@@ -7,7 +7,7 @@ use Rattle.wx_id.specs.Ids.{is_extension_id}
 use Rattle.wx_script.specs.declared.script.Act.{Act}
 use Rattle.wx_script.specs.declared.scene.SceneKind.{SceneKind}
 use Rattle.wx_script.specs.declared.scene.SceneEndpoint.{SceneEndpoint}
-use Rattle.wx_script.specs.Line.{Command, Line, extension, page, script, line_at}
+use Rattle.wx_script.specs.Line.{NamedAct, Line, extension, page, script, line_at}
 use Rattle.wx_script.specs.Names.{has_extension, has_endpoint, id_under}
 use Rattle.wx_script.specs.Draft.{Draft, fresh, with_act, commands, extension_added, page_with, page_added, act_of, act_added, channels_after, command_added, line_added, HasRoom}
 use Rattle.wx_script.specs.Scene.{line_or_form, text_added}
@@ -38,7 +38,7 @@ of_page_with : (d : Draft) (name : List ℕ) (id : Option (List ℕ)) (path : Li
 of_page_with d name None path h = tt
 of_page_with d name (Some id) path h = choice (nat_le 1024 (length d.endpoints)) _ _ (λ t. tt) (λ t. HasRoom-page d _ refl)
 
-HasRoom-command : (d : Draft) (a : Act) (c : Command) → HasRoom d → (length d.endpoints == 0) ≡ false → nat_le 65534 (commands d.endpoints) ≡ false
+HasRoom-command : (d : Draft) (a : Act) (c : NamedAct) → HasRoom d → (length d.endpoints == 0) ≡ false → nat_le 65534 (commands d.endpoints) ≡ false
     → HasRoom (record d { endpoints = with_act a d.endpoints; channels = channels_after d.channels c })
 HasRoom-command d a c h there few =
     let some : 0 < length d.endpoints = grind (arith, nat_tests) in
@@ -47,7 +47,7 @@ HasRoom-command d a c h there few =
     let less : commands d.endpoints < 65534 = grind (arith, nat_tests) in
     record { variables = omega (arith, is, more, h.variables); limit = omega (arith, is, less) }
 
-of_act_added : (d : Draft) (a : Result Act SceneKind) (c : Command) → HasRoom d → (length d.endpoints == 0) ≡ false → Roomy (act_added d a (channels_after d.channels c))
+of_act_added : (d : Draft) (a : Result Act SceneKind) (c : NamedAct) → HasRoom d → (length d.endpoints == 0) ≡ false → Roomy (act_added d a (channels_after d.channels c))
 of_act_added d (Err k) c h there = tt
 of_act_added d (Ok a) c h there = choice (nat_le 65534 (commands d.endpoints)) _ _ (λ t. tt) (λ few. HasRoom-command d a c h there few)
 

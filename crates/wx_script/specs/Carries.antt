@@ -3,35 +3,34 @@ use Rattle.std.specs.Prelude.{◌≡◌, ℕ, List, slice_get, Some, IsTrue, rev
 use Rattle.wx_id.specs.declared.numbers.ContextNo.{ContextNo}
 use Rattle.wx_machine.specs.declared.entries.Who.{Who}
 use Rattle.wx_machine.specs.declared.entries.Who.TheVariants.{Context as ByContext}
+use Rattle.wx_machine.specs.declared.entries.Call.TheVariants.{Take}
 use Rattle.wx_machine.specs.declared.entries.Entry.{Entry}
 use Rattle.wx_machine.specs.Contexts.{is_enter}
+use Rattle.wx_machine.specs.Events.{has_pending}
 use Rattle.wx_machine.specs.Each.{EachAfter}
-use Rattle.wx_script.specs.declared.script.Act.{Act}
-use Rattle.wx_script.specs.Places.{Next, enters, asks, ends, next_of}
+use Rattle.wx_script.specs.declared.script.Command.{Command}
+use Rattle.wx_script.specs.Places.{Next, enters, asks, waits, ends, next_of}
 
--- an entry may come where this is next
-abbrev pub MayCome : Next → Entry → Type 0
-MayCome enters e = IsTrue (is_enter e.call)
-MayCome (asks x) e = e.call ≡ x
-MayCome ends e = ⊥
+-- Context c may make the entry where this is next. One that waits takes, where an event is pending for it.
+abbrev pub MayCome : List Entry → ContextNo → Next → Entry → Type 0
+MayCome past c enters e = IsTrue (is_enter e.call)
+MayCome past c (asks x) e = e.call ≡ x
+MayCome past c waits e = (e.call ≡ Take) × IsTrue (has_pending past c)
+MayCome past c ends e = ⊥
 
 -- Context c is an endpoint, and the entry is what its script asks for behind the entries before it.
-pub record IsAskedOf (scripts : List (List Act)) (past : List Entry) (c : ContextNo) (e : Entry) : Type 0 where
-  pub script : List Act
+pub record IsAskedOf (scripts : List (List Command)) (past : List Entry) (c : ContextNo) (e : Entry) : Type 0 where
+  pub script : List Command
   pub is_endpoint : slice_get scripts c.0 ≡ Some script
-  pub asked : MayCome (next_of script c past) e
+  pub asked : MayCome past c (next_of script c past) e
 
-abbrev pub AskedOf : List (List Act) → List Entry → Who → Entry → Type 0
+abbrev pub AskedOf : List (List Command) → List Entry → Who → Entry → Type 0
 AskedOf scripts past (ByContext c) e = IsAskedOf scripts past c e
 
 -- the entry is its endpoint's, and what that endpoint's script asks for
-abbrev pub FollowsScript : List (List Act) → List Entry → Entry → Type 0
+abbrev pub FollowsScript : List (List Command) → List Entry → Entry → Type 0
 FollowsScript scripts past e = AskedOf scripts past e.who e
 
 -- Each entry is what its endpoint's script asks for at that place: each endpoint's entries carry out its script in order.
-abbrev pub CarriesOut : List (List Act) → List Entry → Type 0
+abbrev pub CarriesOut : List (List Command) → List Entry → Type 0
 CarriesOut scripts journal = EachAfter (FollowsScript scripts) (reverse journal)
-
--- every script has ended
-abbrev pub IsDone : List (List Act) → List Entry → Type 0
-IsDone scripts past = (c : ℕ) (script : List Act) → slice_get scripts c ≡ Some script → next_of script (record { 0 = c }) past ≡ ends

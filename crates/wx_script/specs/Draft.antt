@@ -5,6 +5,7 @@ use Rattle.wx_machine.specs.declared.contexts.Context.TheVariants.{Page}
 use Rattle.wx_machine.specs.declared.contexts.Target.TheVariants.{Own}
 use Rattle.wx_script.specs.declared.script.Act.{Act}
 use Rattle.wx_script.specs.declared.script.Act.TheVariants as act
+use Rattle.wx_script.specs.declared.script.Command.TheVariants.{Plain}
 use Rattle.wx_script.specs.declared.script.Var.{Var}
 use Rattle.wx_script.specs.declared.scene.SceneExtension.{SceneExtension}
 use Rattle.wx_script.specs.declared.scene.SceneEndpoint.{SceneEndpoint}
@@ -12,7 +13,7 @@ use Rattle.wx_script.specs.declared.scene.SceneKind.{SceneKind}
 use Rattle.wx_script.specs.declared.scene.SceneKind.TheVariants as kind
 use Rattle.wx_json.specs.Test.{is_json_text}
 use Rattle.wx_script.specs.Names.{has_extension, has_endpoint, id_under, place_in}
-use Rattle.wx_script.specs.Line.{Command, Line, listen, connect, post, disconnect, take_one, extension, page, script}
+use Rattle.wx_script.specs.Line.{NamedAct, Line, listen, connect, post, disconnect, take_one, extension, page, script}
 
 pub record Draft : Type 0 where
   pub extensions : List SceneExtension
@@ -64,7 +65,7 @@ place_or_next None channels = length channels
 place_or_next (Some n) channels = n
 
 -- a command with its variables' numbers, or the first test that it fails
-abbrev pub act_of : List (List ℕ) → Command → Result Act SceneKind
+abbrev pub act_of : List (List ℕ) → NamedAct → Result Act SceneKind
 act_of channels (listen l) = Ok (act.Listen l)
 act_of channels (connect name) = Ok (act.Connect (var (place_or_next (place_in name channels) channels)) Own [])
 act_of channels (post name text) = where_bound (place_in name channels) (λ n. where_json text (act.Post (var n) text))
@@ -72,7 +73,7 @@ act_of channels (disconnect name) = where_bound (place_in name channels) (λ n. 
 act_of channels take_one = Ok act.Take
 
 -- the variables behind a command
-abbrev pub channels_after : List (List ℕ) → Command → List (List ℕ)
+abbrev pub channels_after : List (List ℕ) → NamedAct → List (List ℕ)
 channels_after channels (connect name) = binding name channels
 channels_after channels _ = channels
 
@@ -85,7 +86,7 @@ commands (e ∷ f ∷ es) = commands (f ∷ es)
 -- the last endpoint gets a command
 abbrev pub with_act : Act → List SceneEndpoint → List SceneEndpoint
 with_act a [] = []
-with_act a (e ∷ []) = record e { script = e.script ++ a ∷ [] } ∷ []
+with_act a (e ∷ []) = record e { script = e.script ++ Plain a ∷ [] } ∷ []
 with_act a (e ∷ f ∷ es) = e ∷ with_act a (f ∷ es)
 
 abbrev pub act_added : Draft → Result Act SceneKind → List (List ℕ) → Result Draft SceneKind
@@ -94,7 +95,7 @@ act_added d (Ok a) channels =
     if nat_le 65534 (commands d.endpoints) then Err kind.Many
     else Ok (record d { endpoints = with_act a d.endpoints; channels = channels })
 
-abbrev pub command_added : Draft → Command → Result Draft SceneKind
+abbrev pub command_added : Draft → NamedAct → Result Draft SceneKind
 command_added d c = if length d.endpoints == 0 then Err kind.Order else act_added d (act_of d.channels c) (channels_after d.channels c)
 
 -- the scene so far with one more line, or what is wrong with the line

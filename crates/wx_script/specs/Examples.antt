@@ -1,9 +1,10 @@
 -- Worked scenes, and faults with their lines.
-use Rattle.std.specs.Prelude.{◌≡◌, ℕ, List, [], ◌∷◌, ◌++◌, Result, Ok, Err, Some, true, false, codes}
+use Rattle.std.specs.Prelude.{◌≡◌, ℕ, List, [], ◌∷◌, ◌++◌, map, Result, Ok, Err, Some, true, false, codes}
 use Rattle.wx_machine.specs.declared.contexts.Context.TheVariants.{Page}
 use Rattle.wx_machine.specs.declared.contexts.Target.TheVariants.{Own}
 use Rattle.wx_script.specs.declared.script.Act.{Act}
 use Rattle.wx_script.specs.declared.script.Act.TheVariants as act
+use Rattle.wx_script.specs.declared.script.Command.TheVariants.{Plain}
 use Rattle.wx_script.specs.declared.scene.SceneExtension.{SceneExtension}
 use Rattle.wx_script.specs.declared.scene.SceneEndpoint.{SceneEndpoint}
 use Rattle.wx_script.specs.declared.scene.SceneKind.{SceneKind}
@@ -46,7 +47,7 @@ abbrev pub x_declared : List SceneExtension
 x_declared = record { name = codes "x"; id = id_a } ∷ []
 
 abbrev pub page_of_x : List ℕ → List ℕ → List Act → SceneEndpoint
-page_of_x name path script = record { name = name; context = Page id_a path; script = script }
+page_of_x name path acts = record { name = name; context = Page id_a path; script = map Plain acts }
 
 abbrev pub TwoPages : Type 0
 TwoPages =

@@ -1,6 +1,8 @@
 pub mod SceneValue
+pub mod Acts
 pub mod Places
 pub mod Carries
+pub mod Ends
 pub mod Words
 pub mod Line
 pub mod Spelling

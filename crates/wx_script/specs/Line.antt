@@ -7,18 +7,18 @@ use Rattle.wx_machine.specs.Texts.{is_page_path}
 use Rattle.wx_script.specs.Words.{word, rest, is_name, is_id_word, is_given}
 
 -- a command as it stands in a script line, with the names of its variables
-pub data Command : Type 0 where
-  listen : Listens → Command
-  connect : List ℕ → Command
-  post : List ℕ → List ℕ → Command
-  disconnect : List ℕ → Command
-  take_one : Command
+pub data NamedAct : Type 0 where
+  listen : Listens → NamedAct
+  connect : List ℕ → NamedAct
+  post : List ℕ → List ℕ → NamedAct
+  disconnect : List ℕ → NamedAct
+  take_one : NamedAct
 
 -- a line behind the head line
 pub data Line : Type 0 where
   extension : List ℕ → List ℕ → Line
   page : List ℕ → List ℕ → List ℕ → Line
-  script : Command → Line
+  script : NamedAct → Line
 
 infixl 10 ◌>>=◌
 abbrev pub ◌>>=◌ : {A B : Type 0} → Option A → (A → Option B) → Option B
@@ -53,30 +53,30 @@ abbrev pub listens_to : Bool → Listens
 listens_to to_connect = record { connect = to_connect; message = false; external_connect = false; external_message = false }
 
 -- none | connect
-unfoldable pub listen_at : List ℕ → Option Command
+unfoldable pub listen_at : List ℕ → Option NamedAct
 listen_at text =
     if bytes_eq text (codes "none") then Some (listen (listens_to false))
     else if bytes_eq text (codes "connect") then Some (listen (listens_to true))
     else None
 
 -- VAR own
-unfoldable pub connect_at : List ℕ → Option Command
+unfoldable pub connect_at : List ℕ → Option NamedAct
 connect_at text = do
   var ← name_at text
   where_so (bytes_eq var.1 (codes "own")) (connect var.0)
 
 -- VAR JSON: the rest of the line, at least one byte
-unfoldable pub post_at : List ℕ → Option Command
+unfoldable pub post_at : List ℕ → Option NamedAct
 post_at text = do
   var ← name_at text
   where_so (is_given var.1) (post var.0 var.1)
 
 -- VAR
-unfoldable pub disconnect_at : List ℕ → Option Command
+unfoldable pub disconnect_at : List ℕ → Option NamedAct
 disconnect_at text = where_so (is_name text) (disconnect text)
 
 -- the word of a command, and what stands behind it
-unfoldable pub command_with : List ℕ → List ℕ → Option Command
+unfoldable pub command_with : List ℕ → List ℕ → Option NamedAct
 command_with head behind =
     if bytes_eq head (codes "listen") then listen_at behind
     else if bytes_eq head (codes "connect") then connect_at behind
@@ -84,7 +84,7 @@ command_with head behind =
     else if bytes_eq head (codes "disconnect") then disconnect_at behind
     else None
 
-unfoldable pub command_at : List ℕ → Option Command
+unfoldable pub command_at : List ℕ → Option NamedAct
 command_at text = if bytes_eq text (codes "take") then Some take_one else rest text >>= command_with (word text)
 
 -- the word of a declaration, and what stands behind it

@@ -1,55 +1,43 @@
 -- Where an endpoint stands in its script, and what comes next.
-use Rattle.std.specs.Prelude.{◌≡◌, ℕ, Bool, List, [], ◌∷◌, length, slice_get, slice_set, replicate, Option, Some, None, is_none, if◌then◌else◌}
+use Rattle.std.specs.Prelude.{◌≡◌, ℕ, ◌-◌, Bool, true, false, List, [], ◌∷◌, length, slice_get, slice_set, replicate, Option, Some, None, ◌==◌, is_none, nat_le, if◌then◌else◌}
 use Rattle.std.specs.Option.{option_map, option_and_then}
 use Rattle.wx_id.specs.declared.numbers.ContextNo.{ContextNo}
 use Rattle.wx_id.specs.declared.numbers.ChannelNo.{ChannelNo}
+use Rattle.wx_id.specs.declared.numbers.EntryNo.{EntryNo}
+use Rattle.wx_id.specs.declared.events.Event.{Event}
+use Rattle.wx_id.specs.declared.events.EventKind.{EventKind}
+use Rattle.wx_id.specs.declared.events.EventKind.TheVariants as kind
 use Rattle.wx_machine.specs.declared.entries.Call.{Call}
 use Rattle.wx_machine.specs.declared.entries.Call.TheVariants as call
 use Rattle.wx_machine.specs.declared.entries.Answer.{Answer}
-use Rattle.wx_machine.specs.declared.entries.Answer.TheVariants.{Channel as OnChannel}
+use Rattle.wx_machine.specs.declared.entries.Answer.TheVariants.{Channel as OnChannel, Event as Told}
 use Rattle.wx_machine.specs.declared.entries.Entry.{Entry}
 use Rattle.wx_machine.specs.Contexts.{is_by}
+use Rattle.wx_machine.specs.Carried.{text_of}
 use Rattle.wx_script.specs.declared.script.Act.{Act}
 use Rattle.wx_script.specs.declared.script.Act.TheVariants as act
+use Rattle.wx_script.specs.declared.script.Command.{Command}
+use Rattle.wx_script.specs.declared.script.Var.{Var}
+use Rattle.wx_script.specs.Acts.{acts_of}
+
+-- ---- variables
 
 -- the channel to which each variable is set, if it is
-abbrev pub Variables : Type 0
-Variables = List (Option ChannelNo)
+pub record Variables : Type 0 where
+  pub channels : List (Option ChannelNo)
 
-abbrev pub channel_of : Variables → ℕ → Option ChannelNo
-channel_of variables v = option_and_then (λ k. k) (slice_get variables v)
+abbrev pub channel_of : Variables → Var → Option ChannelNo
+channel_of variables v = option_and_then (λ k. k) (slice_get variables.channels v.0)
 
--- the call that a command asks for, unless it uses a variable that is not set
-abbrev pub call_of : Variables → Act → Option Call
-call_of variables (act.Listen l) = Some (call.Listen l)
-call_of variables (act.Connect v target name) = Some (call.Connect target name)
-call_of variables (act.Post v text) = option_map (λ k. call.Post k text) (channel_of variables v.0)
-call_of variables (act.Disconnect v) = option_map call.Disconnect (channel_of variables v.0)
-call_of variables act.Take = Some call.Take
+-- a variable set to a channel, or cleared
+abbrev pub set_channel : Variables → Var → Option ChannelNo → Variables
+set_channel variables v k = record variables { channels = slice_set variables.channels v.0 k }
 
--- the channel that an answer gives
-abbrev pub channel_in : Answer → Option ChannelNo
-channel_in (OnChannel k) = Some k
-channel_in _ = None
+-- no variable is set
+abbrev pub unset : ℕ → Variables
+unset n = record { channels = replicate n None }
 
--- A command that binds a variable sets it to the number that it was answered with, and clears it where it was refused.
-abbrev pub variables_after : Variables → Act → Answer → Variables
-variables_after variables (act.Connect v target name) answer = slice_set variables v.0 (channel_in answer)
-variables_after variables _ answer = variables
-
--- the commands without those in front that are passed over
-abbrev pub unskipped : Variables → List Act → List Act
-unskipped variables [] = []
-unskipped variables (a ∷ acts) = if is_none (call_of variables a) then unskipped variables acts else a ∷ acts
-
--- where an endpoint stands
-pub data Place : Type 0 where
-  -- it has made no entry
-  outside : Place
-  -- these commands are left, and the variables are set so
-  within : List Act → Variables → Place
-  -- it has made its `leave`
-  left : Place
+-- ---- what comes next
 
 -- what comes next of an endpoint
 pub data Next : Type 0 where
@@ -57,46 +45,155 @@ pub data Next : Type 0 where
   enters : Next
   -- this call
   asks : Call → Next
+  -- a `take` as soon as an event is pending
+  waits : Next
   -- nothing, behind its `leave`
   ends : Next
 
-abbrev pub asks_for : Option Call → Next
-asks_for (Some x) = asks x
-asks_for None = ends
+-- what an act begins with, unless it uses a variable that is not set
+abbrev pub begins_with : Variables → Act → Option Next
+begins_with variables (act.Listen l) = Some (asks (call.Listen l))
+begins_with variables (act.Connect v target name) = Some (asks (call.Connect target name))
+begins_with variables (act.Post v text) = option_map (λ k. asks (call.Post k text)) (channel_of variables v)
+begins_with variables (act.Disconnect v) = option_map (λ k. asks (call.Disconnect k)) (channel_of variables v)
+begins_with variables act.Take = Some (asks call.Take)
+begins_with variables (act.AwaitConnect v) = Some waits
+begins_with variables (act.AwaitMessage v) = option_map (λ k. waits) (channel_of variables v)
+begins_with variables (act.AwaitClose v) = option_map (λ k. waits) (channel_of variables v)
+begins_with variables (act.Echo n) = Some waits
 
+-- the acts without those in front that are passed over
+abbrev pub unskipped : Variables → List Act → List Act
+unskipped variables [] = []
+unskipped variables (a ∷ acts) = if is_none (begins_with variables a) then unskipped variables acts else a ∷ acts
+
+-- how far the first act that is left has come
+pub data Progress : Type 0 where
+  -- nothing of it was made
+  unbegun : Progress
+  -- an echo, with so many answers to come
+  echoing : ℕ → Progress
+  -- an echo, with so many answers to come, the first to a message on this channel, whose text this entry carries
+  answering : ℕ → ChannelNo → EntryNo → Progress
+
+-- where an endpoint stands
+pub data Place : Type 0 where
+  -- it has made no entry
+  outside : Place
+  -- these acts are left, and the variables are set so
+  within : Progress → List Act → Variables → Place
+  -- it has made its `leave`
+  left : Place
+
+abbrev pub or_ends : Option Next → Next
+or_ends (Some next) = next
+or_ends None = ends
+
+-- what the first act begins with; behind the last act comes a `leave`
 abbrev pub asks_first : Variables → List Act → Next
 asks_first variables [] = asks call.Leave
-asks_first variables (a ∷ acts) = asks_for (call_of variables a)
+asks_first variables (a ∷ acts) = or_ends (begins_with variables a)
 
--- what comes next at a place: the first command that is not passed over, and behind the last a leave
-abbrev pub next_at : Place → Next
-next_at outside = enters
-next_at (within acts variables) = asks_first variables (unskipped variables acts)
-next_at left = ends
+-- a message is answered by its own text (a message without one stands in no legal journal)
+abbrev pub asks_answer : ChannelNo → Option (List ℕ) → Next
+asks_answer k (Some text) = asks (call.Post k text)
+asks_answer k None = waits
+
+-- what comes next at a place, behind these entries
+abbrev pub next_at : List Entry → Place → Next
+next_at past outside = enters
+next_at past (within unbegun acts variables) = asks_first variables (unskipped variables acts)
+next_at past (within (echoing n) acts variables) = waits
+next_at past (within (answering n k e) acts variables) = asks_answer k (text_of past e)
+next_at past left = ends
+
+-- ---- the place behind an entry
+
+-- the channel that an answer gives
+abbrev pub channel_in : Answer → Option ChannelNo
+channel_in (OnChannel k) = Some k
+channel_in _ = None
+
+-- the event that an answer gives
+abbrev pub event_in : Answer → Option Event
+event_in (Told event) = Some event
+event_in _ = None
+
+abbrev pub is_channel : Option ChannelNo → ChannelNo → Bool
+is_channel None k = false
+is_channel (Some j) k = j.0 == k.0
+
+-- whether an await takes no further than this event
+abbrev pub is_wanted : Variables → Act → EventKind → Bool
+is_wanted variables (act.AwaitConnect v) (kind.Connected k) = true
+is_wanted variables (act.AwaitMessage v) (kind.Message k) = is_channel (channel_of variables v) k
+is_wanted variables (act.AwaitMessage v) (kind.Disconnected k) = is_channel (channel_of variables v) k
+is_wanted variables (act.AwaitClose v) (kind.Disconnected k) = is_channel (channel_of variables v) k
+is_wanted variables _ _ = false
+
+-- the awaited connection sets its variable
+abbrev pub set_by : Variables → Act → EventKind → Variables
+set_by variables (act.AwaitConnect v) (kind.Connected k) = set_channel variables v (Some k)
+set_by variables _ _ = variables
+
+-- behind an event that an await takes: an event that is not wanted is passed over
+abbrev pub behind_await : Variables → Act → List Act → Option Event → Place
+behind_await variables a acts None = within unbegun (a ∷ acts) variables
+behind_await variables a acts (Some event) =
+    if is_wanted variables a event.kind then within unbegun acts (set_by variables a event.kind) else within unbegun (a ∷ acts) variables
+
+-- behind an event that an echo takes: a message is to be answered, and every other event is passed over
+abbrev pub heard : ℕ → EntryNo → EventKind → Progress
+heard n e (kind.Message k) = answering n k e
+heard n e _ = echoing n
+
+abbrev pub behind_event : ℕ → Option Event → Progress
+behind_event n None = echoing n
+behind_event n (Some event) = heard n event.entry event.kind
+
+-- Behind the first entry of an act. A command that binds a variable sets it to the number that it was answered with, and
+-- clears it where it was refused.
+abbrev pub behind_act : Variables → Answer → Act → List Act → Place
+behind_act variables answer (act.Listen l) acts = within unbegun acts variables
+behind_act variables answer (act.Connect v target name) acts = within unbegun acts (set_channel variables v (channel_in answer))
+behind_act variables answer (act.Post v text) acts = within unbegun acts variables
+behind_act variables answer (act.Disconnect v) acts = within unbegun acts variables
+behind_act variables answer act.Take acts = within unbegun acts variables
+behind_act variables answer (act.AwaitConnect v) acts = behind_await variables (act.AwaitConnect v) acts (event_in answer)
+behind_act variables answer (act.AwaitMessage v) acts = behind_await variables (act.AwaitMessage v) acts (event_in answer)
+behind_act variables answer (act.AwaitClose v) acts = behind_await variables (act.AwaitClose v) acts (event_in answer)
+behind_act variables answer (act.Echo n) acts = within (behind_event n (event_in answer)) (act.Echo n ∷ acts) variables
 
 abbrev pub behind_first : Variables → Answer → List Act → Place
 behind_first variables answer [] = left
-behind_first variables answer (a ∷ acts) = within acts (variables_after variables a answer)
+behind_first variables answer (a ∷ acts) = behind_act variables answer a acts
 
--- behind the `enter` every command is left, and no variable is set
-abbrev pub at_start : List Act → Place
-at_start script = within script (replicate (length script) None)
+-- behind an answer of an echo, which ends it where it is the last
+abbrev pub behind_answer : ℕ → List Act → Variables → Place
+behind_answer n [] variables = within unbegun [] variables
+behind_answer n (a ∷ acts) variables = if nat_le n 1 then within unbegun acts variables else within (echoing (n - 1)) (a ∷ acts) variables
+
+-- behind the `enter` every act is left, and no variable is set
+abbrev pub at_start : List Command → Place
+at_start script = within unbegun (acts_of script) (unset (length script))
 
 -- the place behind an own entry with this answer
-abbrev pub place_behind : List Act → Place → Answer → Place
+abbrev pub place_behind : List Command → Place → Answer → Place
 place_behind script outside answer = at_start script
-place_behind script (within acts variables) answer = behind_first variables answer (unskipped variables acts)
+place_behind script (within unbegun acts variables) answer = behind_first variables answer (unskipped variables acts)
+place_behind script (within (echoing n) acts variables) answer = within (behind_event n (event_in answer)) acts variables
+place_behind script (within (answering n k e) acts variables) answer = behind_answer n acts variables
 place_behind script left answer = left
 
 -- the place of context c behind one more entry, which changes it only where it is c's own
-abbrev pub behind_entry : List Act → ContextNo → Place → Entry → Place
+abbrev pub behind_entry : List Command → ContextNo → Place → Entry → Place
 behind_entry script c place e = if is_by e.who c then place_behind script place e.answer else place
 
 -- the place of context c behind these entries, the newest first
-unfoldable pub place_of : List Act → ContextNo → List Entry → Place
+unfoldable pub place_of : List Command → ContextNo → List Entry → Place
 place_of script c [] = outside
 place_of script c (e ∷ past) = behind_entry script c (place_of script c past) e
 
 -- what comes next of context c
-abbrev pub next_of : List Act → ContextNo → List Entry → Next
-next_of script c past = next_at (place_of script c past)
+abbrev pub next_of : List Command → ContextNo → List Entry → Next
+next_of script c past = next_at past (place_of script c past)

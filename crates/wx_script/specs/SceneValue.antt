@@ -1,6 +1,6 @@
 -- What a scene is.
 use Rattle.std.specs.Prelude.{List, map}
-use Rattle.wx_script.specs.declared.script.Act.{Act}
+use Rattle.wx_script.specs.declared.script.Command.{Command}
 use Rattle.wx_script.specs.declared.scene.SceneExtension.{SceneExtension}
 use Rattle.wx_script.specs.declared.scene.SceneEndpoint.{SceneEndpoint}
 
@@ -9,5 +9,5 @@ pub record SceneValue : Type 0 where
   pub endpoints : List SceneEndpoint
 
 -- the scripts of its endpoints; endpoint i is context i
-abbrev pub scripts_of : SceneValue → List (List Act)
+abbrev pub scripts_of : SceneValue → List (List Command)
 scripts_of scene = map (λ (e : SceneEndpoint). e.script) scene.endpoints

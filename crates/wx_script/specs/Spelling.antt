@@ -3,7 +3,7 @@ use Rattle.std.specs.Prelude.{◌≡◌, ℕ, Bool, List, [], ◌∷◌, ◌++�
 use Rattle.wx_machine.specs.declared.contexts.Listens.{Listens}
 use Rattle.wx_machine.specs.Texts.{is_page_path}
 use Rattle.wx_script.specs.Words.{is_name, is_id_word, is_given}
-use Rattle.wx_script.specs.Line.{Command, Line, listen, connect, post, disconnect, take_one, extension, page, script, listens_to}
+use Rattle.wx_script.specs.Line.{NamedAct, Line, listen, connect, post, disconnect, take_one, extension, page, script, listens_to}
 
 infixr 6 ◌␣◌
 -- a word, one space, and what follows
@@ -14,7 +14,7 @@ w ␣ more = w ++ 32 ∷ more
 abbrev pub flags : Bool → List ℕ
 flags to_connect = if to_connect then codes "connect" else codes "none"
 
-abbrev pub command_spelling : Command → List ℕ
+abbrev pub command_spelling : NamedAct → List ℕ
 command_spelling (listen l) = codes "listen" ␣ flags l.connect
 command_spelling (connect var) = codes "connect" ␣ var ␣ codes "own"
 command_spelling (post var text) = codes "post" ␣ var ␣ text
@@ -27,14 +27,14 @@ spelling (page name ext path) = codes "page" ␣ name ␣ ext ␣ path
 spelling (script command) = codes "  " ++ command_spelling command
 
 -- what has a spelling
-abbrev pub IsCommand : Command → Type 0
-IsCommand (listen l) = l ≡ listens_to l.connect
-IsCommand (connect var) = IsTrue (is_name var)
-IsCommand (post var text) = IsTrue (is_name var) × IsTrue (is_given text)
-IsCommand (disconnect var) = IsTrue (is_name var)
-IsCommand take_one = Unit {0}
+abbrev pub IsNamedAct : NamedAct → Type 0
+IsNamedAct (listen l) = l ≡ listens_to l.connect
+IsNamedAct (connect var) = IsTrue (is_name var)
+IsNamedAct (post var text) = IsTrue (is_name var) × IsTrue (is_given text)
+IsNamedAct (disconnect var) = IsTrue (is_name var)
+IsNamedAct take_one = Unit {0}
 
 abbrev pub IsLine : Line → Type 0
 IsLine (extension name id) = IsTrue (is_name name) × IsTrue (is_id_word id)
 IsLine (page name ext path) = IsTrue (is_name name) × IsTrue (is_name ext) × IsTrue (is_page_path path)
-IsLine (script command) = IsCommand command
+IsLine (script command) = IsNamedAct command

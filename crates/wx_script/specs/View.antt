@@ -1,11 +1,11 @@
 -- Lines without where they lie in memory.
-use Rattle.wx_script.specs.declared.line.Command as code_command
-use Rattle.wx_script.specs.declared.line.Command.TheVariants as c
+use Rattle.wx_script.specs.declared.line.NamedAct as code_command
+use Rattle.wx_script.specs.declared.line.NamedAct.TheVariants as c
 use Rattle.wx_script.specs.declared.line.Line as code_line
 use Rattle.wx_script.specs.declared.line.Line.TheVariants as l
 use Rattle.wx_script.specs.Line as spec
 
-abbrev pub command_view : code_command.Command → spec.Command
+abbrev pub command_view : code_command.NamedAct → spec.NamedAct
 command_view (c.Listen listens) = spec.listen listens
 command_view (c.Connect var) = spec.connect var.now
 command_view (c.Post var text) = spec.post var.now text.now

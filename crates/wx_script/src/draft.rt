@@ -5,12 +5,12 @@ ghost use Rattle.wx_script.specs.Adding.{so_far, Makes, MakesAct, IsJsonFault};
 ghost use Rattle.wx_machine.specs.declared.contexts.Context.TheVariants as context;
 ghost use Rattle.wx_script.specs.Draft.{place_or_next, extension_added, page_added, act_of, with_act, binding, channels_after, command_added, line_added, commands, HasRoom};
 ghost use Rattle.wx_script.specs.Names.{has_extension, has_endpoint, id_under, place_in};
-ghost use Rattle.wx_script.specs.Spelling.{IsCommand, IsLine};
+ghost use Rattle.wx_script.specs.Spelling.{IsNamedAct, IsLine};
 ghost use Rattle.wx_script.specs.View.{command_view, line_view};
 
-use crate::line::{Command, Line};
+use crate::line::{NamedAct, Line};
 use crate::scene::{SceneEndpoint, SceneExtension, SceneKind};
-use crate::script::{Act, Script, Var};
+use crate::script::{Act, Command, Script, Var};
 use std::alloc::{AllocError, AllocFailed, Global};
 use wx_id::{ExtensionId, NoMemory, Utf8Text};
 use wx_machine::{Context, JsonText, PagePath, Target};
@@ -201,23 +201,23 @@ fn json_text(alloc: Global, json: &[u8]) -> Result<JsonText, LineFault>
 }
 
 /// A command with its variables' numbers.
-fn act(alloc: Global, channels: &[Utf8Text], command: Command<'_>) -> Result<Act, LineFault>
-    requires spelled { IsCommand (command_view command) }
+fn act(alloc: Global, channels: &[Utf8Text], command: NamedAct<'_>) -> Result<Act, LineFault>
+    requires spelled { IsNamedAct (command_view command) }
     requires numbers { length channels.now < 2 ^ 32 }
     ensures { MakesAct result (act_of channels.now (command_view command.entry)) }
 {
     match command {
-        Command::Listen(listens) => Ok(Act::Listen(listens)),
-        Command::Connect(name) => {
+        NamedAct::Listen(listens) => Ok(Act::Listen(listens)),
+        NamedAct::Connect(name) => {
             let var = bound(channels, name);
             Ok(Act::Connect(var, Target::Own, Utf8Text::new(alloc, "")?))
         }
-        Command::Post(name, json) => {
+        NamedAct::Post(name, json) => {
             let var = used(channels, name)?;
             Ok(Act::Post(var, json_text(alloc, json)?))
         }
-        Command::Disconnect(name) => Ok(Act::Disconnect(used(channels, name)?)),
-        Command::Take => Ok(Act::Take),
+        NamedAct::Disconnect(name) => Ok(Act::Disconnect(used(channels, name)?)),
+        NamedAct::Take => Ok(Act::Take),
     }
 }
 
@@ -238,7 +238,7 @@ fn push_act(endpoints: &mut Vec<SceneEndpoint>, act: Act) -> Result<(), AllocErr
     ensures { OnOk result (endpoints.new.items ≡ with_act act endpoints.old.items) }
 {
     let last = endpoints.len() - 1;
-    endpoints[last].script.push(act)
+    endpoints[last].script.push(Command::Plain(act))
 }
 
 /// Binds a variable, if it is not bound yet.
@@ -254,18 +254,18 @@ fn bind(channels: &mut Vec<Utf8Text>, alloc: Global, name: &str) -> Result<(), L
 fn bind_by(
     channels: &mut Vec<Utf8Text>,
     alloc: Global,
-    command: Command<'_>,
+    command: NamedAct<'_>,
 ) -> Result<(), LineFault>
     ensures { MatchResult result (λ _. channels.new.items ≡ channels_after channels.old.items (command_view command.entry)) (λ e. e ≡ LineFault.NoMemory) }
 {
     match command {
-        Command::Connect(name) => bind(channels, alloc, name),
+        NamedAct::Connect(name) => bind(channels, alloc, name),
         _ => Ok(()),
     }
 }
 
-fn add_command(draft: &mut Draft, alloc: Global, command: Command<'_>) -> Result<(), LineFault>
-    requires spelled { IsCommand (command_view command) }
+fn add_command(draft: &mut Draft, alloc: Global, command: NamedAct<'_>) -> Result<(), LineFault>
+    requires spelled { IsNamedAct (command_view command) }
     requires room { HasRoom (so_far draft.old) }
     ensures { Makes (so_far draft.new) result (command_added (so_far draft.old) (command_view command.entry)) }
 {

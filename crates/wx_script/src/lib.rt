@@ -12,4 +12,4 @@ mod tests;
 mod word;
 
 pub use scene::{Scene, SceneEndpoint, SceneExtension, SceneFault, SceneKind, SceneReadFault};
-pub use script::{Act, Script, Var};
+pub use script::{Act, Command, Script, Var};

@@ -9,7 +9,7 @@ use wx_machine::Listens;
 
 /// A command with the names of its variables.
 #[derive(Clone, Copy)]
-pub(crate) enum Command<'a> {
+pub(crate) enum NamedAct<'a> {
     Listen(Listens),
     Connect(&'a str),
     Post(&'a str, &'a [u8]),
@@ -22,7 +22,7 @@ pub(crate) enum Command<'a> {
 pub(crate) enum Line<'a> {
     Extension(&'a str, &'a [u8]),
     Page(&'a str, &'a str, &'a str),
-    Script(Command<'a>),
+    Script(NamedAct<'a>),
 }
 
 #[tactic(auto, unfolding(crate::specs::Line::extension_at))]
@@ -59,55 +59,55 @@ fn listens_to(connect: bool) -> Listens
 }
 
 #[tactic(auto, unfolding(crate::specs::Line::listen_at))]
-fn listen_of(text: &[u8]) -> Option<Command<'_>>
+fn listen_of(text: &[u8]) -> Option<NamedAct<'_>>
     ensures { option_map command_view result ≡ forms.listen_at text.now }
 {
     if text == b"none".as_slice() {
-        Some(Command::Listen(listens_to(false)))
+        Some(NamedAct::Listen(listens_to(false)))
     } else if text == b"connect".as_slice() {
-        Some(Command::Listen(listens_to(true)))
+        Some(NamedAct::Listen(listens_to(true)))
     } else {
         None
     }
 }
 
 #[tactic(auto, unfolding(crate::specs::Line::connect_at))]
-fn connect_of(text: &[u8]) -> Option<Command<'_>>
+fn connect_of(text: &[u8]) -> Option<NamedAct<'_>>
     ensures { option_map command_view result ≡ forms.connect_at text.now }
 {
     let (var, target) = name_and_rest(text)?;
     if target == b"own".as_slice() {
-        Some(Command::Connect(var))
+        Some(NamedAct::Connect(var))
     } else {
         None
     }
 }
 
 #[tactic(auto, unfolding(crate::specs::Line::post_at))]
-fn post_of(text: &[u8]) -> Option<Command<'_>>
+fn post_of(text: &[u8]) -> Option<NamedAct<'_>>
     ensures { option_map command_view result ≡ forms.post_at text.now }
 {
     let (var, json) = name_and_rest(text)?;
     if is_given(json) {
-        Some(Command::Post(var, json))
+        Some(NamedAct::Post(var, json))
     } else {
         None
     }
 }
 
 #[tactic(auto, unfolding(crate::specs::Line::disconnect_at))]
-fn disconnect_of(text: &[u8]) -> Option<Command<'_>>
+fn disconnect_of(text: &[u8]) -> Option<NamedAct<'_>>
     ensures { option_map command_view result ≡ forms.disconnect_at text.now }
 {
-    Some(Command::Disconnect(name(text)?))
+    Some(NamedAct::Disconnect(name(text)?))
 }
 
 #[tactic(auto, unfolding(crate::specs::Line::command_at, crate::specs::Line::command_with))]
-fn command_of(text: &[u8]) -> Option<Command<'_>>
+fn command_of(text: &[u8]) -> Option<NamedAct<'_>>
     ensures { option_map command_view result ≡ forms.command_at text.now }
 {
     if text == b"take".as_slice() {
-        return Some(Command::Take);
+        return Some(NamedAct::Take);
     }
     let (word, rest) = split_word(text);
     let rest = rest?;

@@ -1,4 +1,4 @@
-ghost use Rattle.std.specs.Prelude.{◌≡◌, [], ◌∷◌, ◌++◌, length, OnOk, OnErr};
+ghost use Rattle.std.specs.Prelude.{◌≡◌, [], ◌∷◌, ◌++◌, length, slice_get, option_copied, OnOk, OnErr};
 
 use std::alloc::{AllocError, Global};
 use std::marker::Model;
@@ -9,7 +9,7 @@ use wx_machine::{JsonText, Listens, Target};
 #[derive(Clone, Copy, Debug, PartialEq, Eq)]
 pub struct Var(pub u32);
 
-/// A command of a script.
+/// What a command does once.
 #[derive(Debug, Drop)]
 pub enum Act {
     /// One `listen`.
@@ -22,21 +22,38 @@ pub enum Act {
     Disconnect(Var),
     /// One `take`, whatever it answers.
     Take,
+    /// Takes until a channel is connected; binds the variable to it.
+    AwaitConnect(Var),
+    /// Takes until a message comes on the variable's channel, or it is disconnected.
+    AwaitMessage(Var),
+    /// Takes until the variable's channel is disconnected.
+    AwaitClose(Var),
+    /// Takes until so many messages came, and answers each by a `post` of the same text on its channel.
+    Echo(u32),
+}
+
+/// A command of a script.
+#[derive(Debug, Drop)]
+pub enum Command {
+    /// The act, once.
+    Plain(Act),
+    /// The act, so many times.
+    Repeat(u32, Act),
 }
 
 /// The commands of an endpoint. Contracts see their list.
 #[derive(Debug, Drop)]
 pub struct Script {
-    acts: Vec<Act>,
+    commands: Vec<Command>,
 }
 
 impl Model for Script {
     ghost use Rattle.std.specs.Prelude.{List};
-    ghost use Rattle.wx_script.specs.declared.script.Act.{Act};
+    ghost use Rattle.wx_script.specs.declared.script.Command.{Command};
 
-    ghost Value = { List Act };
+    ghost Value = { List Command };
 
-    ghost view = { λ script. script.acts.items };
+    ghost view = { λ script. script.commands.items };
 }
 
 impl Script {
@@ -45,16 +62,16 @@ impl Script {
         ensures { result ≡ [] }
     {
         Script {
-            acts: Vec::new(alloc),
+            commands: Vec::new(alloc),
         }
     }
 
     /// Adds a command behind the others.
-    pub fn push(&mut self, act: Act) -> Result<(), AllocError>
-        ensures ok { OnOk result (self.new ≡ self.old ++ act ∷ []) }
+    pub fn push(&mut self, command: Command) -> Result<(), AllocError>
+        ensures ok { OnOk result (self.new ≡ self.old ++ command ∷ []) }
         ensures err { OnErr result (self.new ≡ self.old) }
     {
-        self.acts.push(act)?;
+        self.commands.push(command)?;
         Ok(())
     }
 
@@ -62,13 +79,20 @@ impl Script {
     pub fn len(&self) -> u64
         ensures { result ≡ length self.now }
     {
-        self.acts.len() as u64
+        self.commands.len() as u64
+    }
+
+    /// The i-th command, from 0.
+    pub fn command(&self, i: u64) -> Option<&Command>
+        ensures { option_copied result ≡ slice_get self.now i }
+    {
+        self.commands.get(i as usize)
     }
 
     /// Its commands in order.
-    pub fn acts(&self) -> &[Act]
+    pub fn commands(&self) -> &[Command]
         ensures { result.now ≡ self.now }
     {
-        self.acts.as_slice()
+        self.commands.as_slice()
     }
 }

@@ -1,4 +1,4 @@
-use crate::{Act, Scene, SceneFault, SceneKind, SceneReadFault};
+use crate::{Act, Command, Scene, SceneFault, SceneKind, SceneReadFault};
 use std::alloc::{AllocError, Global};
 use std::test::Fail;
 use wx_machine::Context;
@@ -192,19 +192,23 @@ fn two_pages(rt: HostRuntime) {
             assert_eq!(rt; x.name.as_str(), "x");
             assert_eq!(rt; q.name.as_str(), "q");
             assert!(rt; is_page(&q.context, "/q") && is_page(&p.context, "/p"));
-            match q.script.acts() {
+            match q.script.commands() {
                 [
-                    Act::Connect(a, _, name),
-                    Act::Post(b, number),
-                    Act::Disconnect(c),
+                    Command::Plain(Act::Connect(a, _, name)),
+                    Command::Plain(Act::Post(b, number)),
+                    Command::Plain(Act::Disconnect(c)),
                 ] => {
                     assert!(rt; a.0 == 0 && b.0 == 0 && c.0 == 0);
                     assert!(rt; name.as_str() == "" && number.bytes() == b"10".as_slice());
                 }
                 _ => assert!(rt; false),
             }
-            match p.script.acts() {
-                [Act::Listen(first), Act::Listen(second), Act::Take] => {
+            match p.script.commands() {
+                [
+                    Command::Plain(Act::Listen(first)),
+                    Command::Plain(Act::Listen(second)),
+                    Command::Plain(Act::Take),
+                ] => {
                     assert!(rt; first.connect && !first.message && !second.connect);
                 }
                 _ => assert!(rt; false),
