@@ -1,10 +1,16 @@
 -- What a run of a scene leaves.
-use Rattle.std.specs.Prelude.{◌≡◌, ℕ, List, ◌++◌, reverse}
+use Rattle.std.specs.Prelude.{◌≡◌, ℕ, ◌≤◌, List, ◌++◌, reverse, Some}
+use Rattle.wx_id.specs.declared.numbers.ContextNo.{ContextNo}
 use Rattle.wx_machine.specs.declared.world.World.{World}
 use Rattle.wx_machine.specs.declared.entries.Entry.{Entry}
 use Rattle.wx_machine.specs.Answers.{IsLegal}
+use Rattle.wx_script.specs.declared.script.Command.{Command}
 use Rattle.wx_script.specs.SceneValue.{SceneValue, scripts_of}
-use Rattle.wx_script.specs.Carries.{CarriesOut, IsDone}
+use Rattle.wx_script.specs.Carries.{CarriesOut}
+use Rattle.wx_script.specs.Ends.{IsDone, IsStalled, spent_of, entries_by, entry_limit}
+use Rattle.wx_run.specs.declared.outcome.RunEnd.{RunEnd}
+use Rattle.wx_run.specs.declared.outcome.RunEnd.TheVariants.{Done, Stalled, Spent}
+use Rattle.wx_run.specs.declared.outcome.SpentWho.TheVariants.{Endpoint}
 use Rattle.wx_run.specs.Opening.{opening}
 use Rattle.wx_run.specs.Rounds.{Rounds}
 
@@ -12,16 +18,24 @@ use Rattle.wx_run.specs.Rounds.{Rounds}
 abbrev pub BeginsWith : List Entry → List Entry → Type 0
 BeginsWith front journal = (others : List Entry) × (journal ≡ front ++ others)
 
--- A journal that a run of the scene leaves.
-pub record IsRunOf (world : World) (scene : SceneValue) (journal : List Entry) : Type 0 where
+-- the run has this end, the newest entry standing first
+abbrev pub EndsBy : List (List Command) → List Entry → RunEnd → Type 0
+EndsBy scripts past Done = IsDone scripts past
+EndsBy scripts past Stalled = IsStalled scripts past
+EndsBy scripts past (Spent (Endpoint n)) = spent_of scripts past ≡ Some n
+
+-- A journal that a run of the scene leaves, and how it ends.
+pub record IsRunOf (world : World) (scene : SceneValue) (journal : List Entry) (end : RunEnd) : Type 0 where
   -- every answer is the machine's after the entries before it
   pub legal : IsLegal world journal
   -- each entry is an endpoint's, and what its script asks for at its place
   pub carries_out : CarriesOut (scripts_of scene) journal
   -- it begins with the opening
   pub begins : BeginsWith (opening scene) journal
-  -- and behind the opening come whole rounds, so many
+  -- and behind the opening come rounds, so many whole ones
   pub count : ℕ
   pub in_rounds : Rounds count (scripts_of scene) (reverse (opening scene)) (reverse journal)
-  -- and every script has ended
-  pub done : IsDone (scripts_of scene) (reverse journal)
+  -- no endpoint makes more entries than it may
+  pub within_limit : (c : ContextNo) → entries_by c (reverse journal) ≤ entry_limit
+  -- and it ends so
+  pub ended : EndsBy (scripts_of scene) (reverse journal) end

