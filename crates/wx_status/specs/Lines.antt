@@ -3,6 +3,10 @@ use Rattle.std.specs.Prelude.{ℕ, List, ◌++◌, decimal, codes}
 use Rattle.wx_script.specs.declared.scene.SceneKind.{SceneKind}
 use Rattle.wx_script.specs.declared.scene.SceneKind.TheVariants.{Missing, Large, Head, Form, Order, Id, Repeated, Unknown, Unbound, Json, Many}
 use Rattle.wx_script.specs.declared.scene.SceneFault.{SceneFault}
+use Rattle.wx_match_pattern.specs.declared.fault.PatternKind.{PatternKind}
+use Rattle.wx_match_pattern.specs.declared.fault.PatternKind.TheVariants as pattern
+use Rattle.wx_status.specs.declared.status.InputKind.{InputKind}
+use Rattle.wx_status.specs.declared.status.InputKind.TheVariants as input
 
 -- the word for a fault's kind
 abbrev pub kind_word : SceneKind → List ℕ
@@ -33,3 +37,19 @@ write_fault_line = codes "wx: write fault\n"
 
 abbrev pub no_memory_line : List ℕ
 no_memory_line = codes "wx: no memory\n"
+
+-- the word for the part of a pattern in which a fault lies
+abbrev pub pattern_word : PatternKind → List ℕ
+pattern_word pattern.Scheme = codes "scheme"
+pattern_word pattern.Host = codes "host"
+pattern_word pattern.Path = codes "path"
+
+-- the rest of the line that says why an input is refused
+abbrev pub input_rest : InputKind → List ℕ
+input_rest input.Missing = codes "missing\n"
+input_rest input.Large = codes "large\n"
+input_rest (input.Pattern fault) = codes "pattern " ++ (decimal fault.place ++ (codes " " ++ (pattern_word fault.kind ++ codes "\n")))
+input_rest input.Url = codes "url\n"
+
+abbrev pub input_line : InputKind → List ℕ
+input_line kind = codes "wx: input refused: " ++ input_rest kind

@@ -1,13 +1,15 @@
 -- The numbers of the program's answers.
 use Rattle.std.specs.Prelude.{ℕ}
-use Rattle.wx_cmd.specs.declared.status.Status.{Status}
-use Rattle.wx_cmd.specs.declared.status.Status.TheVariants.{Done, Usage, ReadFault, SceneRefused, WriteFault, NoMemory}
+use Rattle.wx_status.specs.declared.status.Status.{Status}
+use Rattle.wx_status.specs.declared.status.Status.TheVariants.{Done, No, Usage, ReadFault, SceneRefused, InputRefused, WriteFault, NoMemory}
 
 -- the number with which the program ends
 abbrev pub status_number : Status → ℕ
 status_number Done = 0
+status_number No = 1
 status_number Usage = 2
 status_number ReadFault = 3
 status_number (SceneRefused line kind) = 4
+status_number (InputRefused kind) = 4
 status_number WriteFault = 6
 status_number NoMemory = 7

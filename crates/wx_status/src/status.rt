@@ -1,19 +1,37 @@
 ghost use Rattle.std.specs.Prelude.{◌≡◌};
-ghost use Rattle.wx_cmd.specs.Status.{status_number};
+ghost use Rattle.wx_status.specs.Status.{status_number};
 
+use wx_match_pattern::PatternFault;
 use wx_script::SceneKind;
+
+/// Why the input of a command is refused.
+#[derive(Clone, Copy, Debug, PartialEq, Eq)]
+pub enum InputKind {
+    /// There is no such file.
+    Missing,
+    /// The file has more than 67,108,864 bytes.
+    Large,
+    /// The word is no match pattern.
+    Pattern(PatternFault),
+    /// The word has more than 67,108,864 bytes, or is no URL by the URL Standard's parser.
+    Url,
+}
 
 /// What the program answers.
 #[derive(Clone, Copy, Debug, PartialEq, Eq)]
 pub enum Status {
-    /// Every script ended, and the journal's text was written whole.
+    /// Every script ended, and the journal's text was written whole; of another command, yes.
     Done,
+    /// A command's answer is no, and was written whole.
+    No,
     /// The words have none of the forms.
     Usage,
-    /// The scene could not be read.
+    /// A file could not be read.
     ReadFault,
     /// There is no such scene, it is too large, or its bytes are no scene. Lines are numbered from 1; 0 names none.
     SceneRefused { line: u64, kind: SceneKind },
+    /// The input of a command is refused.
+    InputRefused(InputKind),
     /// A text or a line was not written whole.
     WriteFault,
     /// Memory was refused.
@@ -27,9 +45,11 @@ impl Status {
     {
         match self {
             Status::Done => 0,
+            Status::No => 1,
             Status::Usage => 2,
             Status::ReadFault => 3,
             Status::SceneRefused { .. } => 4,
+            Status::InputRefused(_) => 4,
             Status::WriteFault => 6,
             Status::NoMemory => 7,
         }

@@ -1,0 +1,5 @@
+pub mod FrameLines
+pub mod TellLemmas
+pub mod Judgings
+pub mod OneAnswer
+pub mod Completes

@@ -1,0 +1,12 @@
+use Rattle.std.proofs.Common.{refl, ap}
+use Rattle.wx_plain.specs.View.{verdict_view}
+use Rattle.wx_plain.proofs.TellLemmas.{refusal_told, read_fault_told}
+use Rattle.wx_plain.proofs.tell.tell.Goals as goal
+
+pub returns-in-Ok-input_line : goal.returns-in-Ok-input_line
+returns-in-Ok-input_line g c =
+    refusal_told _ c.in-Refused.kind _ _ _ _ _ (ap verdict_view c.in-Refused.is) c.as_bytes-in-Ok-input_line.ensures.value c.in-Ok-input_line.ensures refl c.tell_line-in-Ok-input_line.ensures
+
+pub returns-in-Ok : goal.returns-in-Ok
+returns-in-Ok g c =
+    read_fault_told _ c.in-ReadFault.file.now _ _ _ _ _ (ap verdict_view c.in-ReadFault.is) c.as_bytes.ensures.value c.in-Ok.ensures refl c.tell_line-in-Ok.ensures

@@ -1,0 +1,11 @@
+pub mod Output
+pub mod Matching
+pub mod Framing
+pub mod Answers
+pub mod Verdict
+pub mod View
+pub mod Told
+pub mod Headline
+pub mod Complete
+pub mod Writing
+pub mod Judging

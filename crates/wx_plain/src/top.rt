@@ -1,0 +1,115 @@
+ghost use Rattle.std.specs.Prelude.{◌≡◌, ◌⊎◌, map, string_bytes, None};
+ghost use Rattle.wx_outside.specs.Causes.{Rose};
+ghost use Rattle.wx_outside.specs.Shelf.{content};
+ghost use Rattle.wx_status.specs.declared.status.Status.TheVariants as status;
+ghost use Rattle.wx_words.specs.Words as forms;
+ghost use Rattle.wx_plain.specs.Answers.{FramesAnswers};
+ghost use Rattle.wx_plain.specs.Complete.{IsPlainComplete};
+ghost use Rattle.wx_plain.specs.Headline.{Judged, PlainHeadline};
+ghost use Rattle.wx_plain.specs.Judging.{ComesTo, FileJudged};
+ghost use Rattle.wx_plain.specs.Matching as matches;
+ghost use Rattle.wx_plain.specs.View.{verdict_in, verdict_view};
+
+use crate::laws::one_plain_answer;
+use crate::tell::tell;
+use crate::verdict::{Output, Refusal, Verdict};
+use crate::{frames, matching};
+use std::alloc::Global;
+use wx_id::NoMemory;
+use wx_outside::{Found, Shelf, ShelfFault, Sink};
+use wx_status::{InputKind, Status};
+use wx_words::{PlainCommand, plain_command};
+
+/// An answer as a verdict.
+fn verdict_of<'a>(answer: Result<Output, Refusal>) -> Verdict<'a>
+    ensures { verdict_view result ≡ verdict_in answer }
+{
+    match answer {
+        Ok(output) => Verdict::Answered(output),
+        Err(Refusal::Input(kind)) => Verdict::Refused(kind),
+        Err(Refusal::NoMemory) => Verdict::NoMemory,
+    }
+}
+
+/// What the call answers of a pattern and a URL.
+#[tactic(auto, using(crate::proofs::Judgings::comes_to))]
+fn judge_match<'a>(alloc: Global, pattern: &str, url: &str) -> Verdict<'a>
+    ensures { ComesTo (matches.MatchAnswers (matches.pattern_in pattern.now) (matches.url_in url.now)) (verdict_view result) }
+{
+    verdict_of(matching::answer(alloc, pattern, url))
+}
+
+/// What was found under the file's name comes to.
+#[tactic(auto, using(crate::proofs::Judgings::comes_to))]
+fn judge_found<'a>(alloc: Global, found: Found) -> Verdict<'a>
+    ensures { ComesTo (FramesAnswers (content found)) (verdict_view result) }
+{
+    match found {
+        Found::Bytes(bytes) => verdict_of(frames::answer(alloc, &bytes)),
+        Found::Missing => Verdict::Refused(InputKind::Missing),
+        Found::Large => Verdict::Refused(InputKind::Large),
+    }
+}
+
+/// What the call answers for the frames of a file.
+#[tactic(auto, using(crate::proofs::Judgings::file_judged))]
+fn judge_file<'a, F: Shelf>(alloc: Global, file: &'a str, shelf: &mut F) -> Verdict<'a>
+    ensures judged { FileJudged file.entry.now
+        (record { files = F.files shelf.old; faults_before = F.faults shelf.old; faults_after = F.faults shelf.new })
+        (verdict_view result) }
+    ensures unchanged { F.files shelf.new ≡ F.files shelf.old }
+{
+    match shelf.read(alloc, file) {
+        Ok(found) => judge_found(alloc, found),
+        Err(ShelfFault::Failed) => Verdict::ReadFault(file),
+        Err(ShelfFault::NoMemory) => Verdict::NoMemory,
+    }
+}
+
+/// What the call answers before it writes.
+fn judge<'a, F: Shelf>(alloc: Global, words: &'a [String], shelf: &mut F) -> Verdict<'a>
+    ensures judged { Judged (map string_bytes words.entry.now)
+        (record { files = F.files shelf.old; faults_before = F.faults shelf.old; faults_after = F.faults shelf.new })
+        (verdict_view result) }
+    ensures unchanged { F.files shelf.new ≡ F.files shelf.old }
+{
+    match plain_command(alloc, words) {
+        Ok(Some(PlainCommand::Match { pattern, url })) => judge_match(alloc, pattern, url),
+        Ok(Some(PlainCommand::Frames { file })) => judge_file(alloc, file, shelf),
+        Ok(None) => Verdict::Usage,
+        Err(NoMemory) => Verdict::NoMemory,
+    }
+}
+
+/// All that the commands do which make no run: it judges what the words ask for, of their operands or of what the shelf
+/// holds, and tells the answer on the two sinks. `words` are those of the command line behind the program's name. Of the
+/// words of a run it answers `Status::Usage`.
+pub fn wx_plain<F: Shelf, O: Sink, E: Sink>(
+    alloc: Global,
+    words: &[String],
+    shelf: &mut F,
+    out: &mut O,
+    err: &mut E,
+) -> Status
+    // The call has a verdict, which has its cause, and tells it.
+    ensures headline { PlainHeadline (map string_bytes words.now)
+        (record { files = F.files shelf.old; faults_before = F.faults shelf.old; faults_after = F.faults shelf.new })
+        (record { before = O.written out.old; after = O.written out.new; faults_before = O.faults out.old; faults_after = O.faults out.new })
+        (record { before = E.written err.old; after = E.written err.new; faults_before = E.faults err.old; faults_after = E.faults err.new }) result }
+    // Where nothing is wrong, the output decides, unless memory was refused.
+    ensures complete { IsPlainComplete (map string_bytes words.now)
+        (record { files = F.files shelf.old; faults_before = F.faults shelf.old; faults_after = F.faults shelf.new })
+        (record { before = O.written out.old; after = O.written out.new; faults_before = O.faults out.old; faults_after = O.faults out.new })
+        (record { before = E.written err.old; after = E.written err.new; faults_before = E.faults err.old; faults_after = E.faults err.new }) result }
+
+    // The causes of three answers, as the headline has them.
+    ensures usage { result ≡ status.Usage → forms.plain_command_of (map string_bytes words.now) ≡ None }
+    ensures read_fault { result ≡ status.ReadFault → Rose (F.faults shelf.old) (F.faults shelf.new) }
+    ensures write_fault { result ≡ status.WriteFault → Rose (O.faults out.old) (O.faults out.new) ⊎ Rose (E.faults err.old) (E.faults err.new) }
+
+    ensures unchanged { F.files shelf.new ≡ F.files shelf.old }
+{
+    one_plain_answer();
+    let verdict = judge(alloc, words, shelf);
+    tell(alloc, verdict, out, err)
+}

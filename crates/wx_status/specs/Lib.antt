@@ -1,0 +1,4 @@
+pub mod Status
+pub mod Lines
+pub mod Changes
+pub mod Told

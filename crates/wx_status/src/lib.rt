@@ -1,0 +1,12 @@
+//! What the program answers: the statuses with their numbers, their lines, and how a line or a text is told.
+#![tactic(auto)]
+
+mod lines;
+mod status;
+mod tell;
+#[cfg(test)]
+mod tests;
+
+pub use lines::{input_line, read_fault_line, refusal_line};
+pub use status::{InputKind, Status};
+pub use tell::{tell_line, tell_no_memory, tell_text};

@@ -1,0 +1,54 @@
+ghost use Rattle.std.specs.Prelude.{◌≡◌};
+ghost use Rattle.wx_status.specs.declared.status.Status.TheVariants as status;
+ghost use Rattle.wx_status.specs.Changes.{WasTried};
+ghost use Rattle.wx_status.specs.Lines.{write_fault_line};
+ghost use Rattle.wx_status.specs.Told.{ToldText, ToldNoMemory, LineTold};
+
+use crate::status::Status;
+use wx_outside::{Failed, Sink};
+
+/// Writes the line of an answer.
+pub fn tell_line<E: Sink>(answer: Status, line: &[u8], err: &mut E) -> Status
+    ensures { LineTold answer line.now (record { before = E.written err.old; after = E.written err.new; faults_before = E.faults err.old; faults_after = E.faults err.new }) result }
+{
+    match err.write(line) {
+        Ok(()) => answer,
+        Err(Failed) => Status::WriteFault,
+    }
+}
+
+/// Tries the line of want of memory.
+pub fn tell_no_memory<E: Sink>(err: &mut E) -> Status
+    ensures { ToldNoMemory (record { before = E.written err.old; after = E.written err.new; faults_before = E.faults err.old; faults_after = E.faults err.new }) result }
+{
+    match err.write(b"wx: no memory\n") {
+        Ok(()) => Status::NoMemory,
+        Err(Failed) => Status::NoMemory,
+    }
+}
+
+/// Tries the line of a failed write.
+fn tell_write_fault<E: Sink>(err: &mut E) -> Status
+    ensures is { result ≡ status.WriteFault }
+    ensures tried { WasTried (record { before = E.written err.old; after = E.written err.new; faults_before = E.faults err.old; faults_after = E.faults err.new }) write_fault_line }
+{
+    match err.write(b"wx: write fault\n") {
+        Ok(()) => Status::WriteFault,
+        Err(Failed) => Status::WriteFault,
+    }
+}
+
+/// Writes the text of an answer. Where there is none, nothing is written.
+pub fn tell_text<O: Sink, E: Sink>(answer: Status, text: &[u8], out: &mut O, err: &mut E) -> Status
+    ensures { ToldText answer text.now
+        (record { before = O.written out.old; after = O.written out.new; faults_before = O.faults out.old; faults_after = O.faults out.new })
+        (record { before = E.written err.old; after = E.written err.new; faults_before = E.faults err.old; faults_after = E.faults err.new }) result }
+{
+    if text.is_empty() {
+        return answer;
+    }
+    match out.write(text) {
+        Ok(()) => answer,
+        Err(Failed) => tell_write_fault(err),
+    }
+}

@@ -1,0 +1,4 @@
+pub mod WordLists
+pub mod Walks
+pub mod Counts
+pub mod RunCounts

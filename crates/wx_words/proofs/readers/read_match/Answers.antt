@@ -1,0 +1,11 @@
+use Rattle.std.proofs.Common.{◌≡◌, ◌∙◌, List, ap, ap₂, subst, sym, refl, map, string_bytes, true}
+use Rattle.clap.specs.Words.{App, FailsBy, app_of, fault_of, is_simple_and_free, with_rule}
+use Rattle.wx_words.specs.Readers as readers
+use Rattle.wx_words.proofs.readers.read_match.Goals as goal
+
+pub returns-clause-kinds : goal.returns-clause-kinds
+returns-clause-kinds c =
+    let first_is = c.in_ok-arg.ensures.shape c.wanted.ensures.own ∙ ap₂ with_rule c.bare.ensures c.wanted.ensures.rule in
+    let reader_is : app_of c.in_ok-command.command ≡ readers.match_reader = c.in_ok-command.ensures.shape c.wanted-2.ensures.own ∙ ap₂ with_rule first_is c.wanted-2.ensures.rule in
+    let is_simple : is_simple_and_free (app_of c.in_ok-command.command) ≡ true = ap is_simple_and_free reader_is in
+    subst (λ (app : App). FailsBy (fault_of app (map string_bytes c.args.words.now)) c.try_get_matches_from.result) reader_is (c.try_get_matches_from.ensures.kinds is_simple)

@@ -1,0 +1,69 @@
+-- Which words ask for what. The first word names the command.
+use Rattle.std.specs.Prelude.{ℕ, Bool, true, false, ◌&&◌, ◌||◌, not, List, [], ◌∷◌, drop, Option, Some, None, ◌==◌, codes, if◌then◌else◌}
+use Rattle.std.specs.Str.{bytes_eq}
+
+-- a word that is no flag: one that does not begin with `-`, or `-` alone, which is standard input where a file stands
+abbrev pub is_operand : List ℕ → Bool
+is_operand [] = true
+is_operand (b ∷ bs) = not (b == 45) || bytes_eq (b ∷ bs) (codes "-")
+
+-- the word is the flag `--rounds`
+abbrev pub is_rounds : List ℕ → Bool
+is_rounds word = bytes_eq word (codes "--rounds")
+
+-- the words begin with this one
+abbrev pub is_named : List ℕ → List (List ℕ) → Bool
+is_named name [] = false
+is_named name (word ∷ words) = bytes_eq word name
+
+-- the word itself, where it is an operand
+abbrev pub operand : List ℕ → Option (List ℕ)
+operand word = if is_operand word then Some word else None
+
+-- the scene of the words behind `run`: SCENE, or `--rounds SCENE`, or `SCENE --rounds`
+abbrev pub scene_in : List (List ℕ) → Option (List ℕ)
+scene_in (scene ∷ []) = operand scene
+scene_in (one ∷ two ∷ []) = if is_rounds one then operand two else (if is_rounds two then operand one else None)
+scene_in words = None
+
+-- the scene of the words of a run; other words name none
+abbrev pub scene_named : List (List ℕ) → Option (List ℕ)
+scene_named words = if is_named (codes "run") words then scene_in (drop 1 words) else None
+
+-- a command that makes no run
+pub data PlainCommand : Type 0 where
+  -- does this pattern match this URL?
+  matching : List ℕ → List ℕ → PlainCommand
+  -- which frames are in this file?
+  framing : List ℕ → PlainCommand
+
+-- the words behind `match`: PATTERN URL
+abbrev pub match_in : List (List ℕ) → Option PlainCommand
+match_in (pattern ∷ url ∷ []) = if is_operand pattern && is_operand url then Some (matching pattern url) else None
+match_in words = None
+
+-- the words behind `frames`: FILE
+abbrev pub frames_in : List (List ℕ) → Option PlainCommand
+frames_in (file ∷ []) = if is_operand file then Some (framing file) else None
+frames_in words = None
+
+-- the command that makes no run which the words ask for; other words ask for none
+abbrev pub plain_command_of : List (List ℕ) → Option PlainCommand
+plain_command_of words =
+    if is_named (codes "match") words then match_in (drop 1 words)
+    else (if is_named (codes "frames") words then frames_in (drop 1 words) else None)
+
+-- both words of `match`, where both were read
+abbrev pub both : Option (List ℕ) → Option (List ℕ) → Option PlainCommand
+both (Some pattern) (Some url) = Some (matching pattern url)
+both pattern url = None
+
+-- the names under which the words of `match` and `frames` are read
+abbrev pub pattern_id : List ℕ
+pattern_id = codes "pattern"
+
+abbrev pub url_id : List ℕ
+url_id = codes "url"
+
+abbrev pub file_id : List ℕ
+file_id = codes "file"

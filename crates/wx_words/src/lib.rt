@@ -1,0 +1,10 @@
+//! The words of the command line: which command they ask for, and of what.
+#![tactic(auto)]
+
+mod operands;
+mod plain;
+mod readers;
+mod run;
+
+pub use plain::{PlainCommand, plain_command};
+pub use run::scene_named;

@@ -1,0 +1,92 @@
+ghost use Rattle.std.specs.Prelude.{◌≡◌, IfOk, map, drop, string_bytes, true};
+ghost use Rattle.std.specs.List.{list_all};
+ghost use Rattle.std.specs.Option.{option_map};
+ghost use Rattle.clap.specs.Words.{first_value, found_of};
+ghost use Rattle.wx_words.specs.Words as forms;
+ghost use Rattle.wx_words.specs.View.{command_view};
+
+use crate::operands::{are_operands, is_named};
+use crate::readers::{is_out_of_memory, read_frames, read_match};
+use clap::ArgMatches;
+use std::alloc::Global;
+use wx_id::NoMemory;
+
+/// A command that makes no run, with its words.
+#[derive(Clone, Copy, Debug, PartialEq, Eq)]
+pub enum PlainCommand<'a> {
+    /// `match PATTERN URL`.
+    Match { pattern: &'a str, url: &'a str },
+    /// `frames FILE`.
+    Frames { file: &'a str },
+}
+
+/// The command that the values of `match` make, where both are there.
+fn of_match<'a>(found: &ArgMatches<'a>) -> Option<PlainCommand<'a>>
+    ensures { option_map command_view result ≡ forms.both (first_value (found_of found.now) forms.pattern_id) (first_value (found_of found.now) forms.url_id) }
+{
+    match (found.get_str("pattern"), found.get_str("url")) {
+        (Some(pattern), Some(url)) => Some(PlainCommand::Match { pattern, url }),
+        _ => None,
+    }
+}
+
+/// The command that the value of `frames` makes, where it is there.
+fn of_frames<'a>(found: &ArgMatches<'a>) -> Option<PlainCommand<'a>>
+    ensures { option_map command_view result ≡ option_map forms.framing (first_value (found_of found.now) forms.file_id) }
+{
+    match found.get_str("file") {
+        Some(file) => Some(PlainCommand::Frames { file }),
+        None => None,
+    }
+}
+
+/// The command of words that begin with `match` and have operands behind it.
+fn match_command<'a>(alloc: Global, words: &'a [String]) -> Result<Option<PlainCommand<'a>>, NoMemory>
+    requires { list_all forms.is_operand (drop 1 (map string_bytes words.now)) ≡ true }
+    ensures { IfOk result (λ command. option_map command_view command ≡ forms.match_in (drop 1 (map string_bytes words.entry.now))) }
+{
+    match read_match(alloc, words) {
+        Ok(found) => Ok(of_match(&found)),
+        Err(e) => {
+            if is_out_of_memory(&e) {
+                Err(NoMemory)
+            } else {
+                Ok(None)
+            }
+        }
+    }
+}
+
+/// The command of words that begin with `frames` and have operands behind it.
+fn frames_command<'a>(alloc: Global, words: &'a [String]) -> Result<Option<PlainCommand<'a>>, NoMemory>
+    requires { list_all forms.is_operand (drop 1 (map string_bytes words.now)) ≡ true }
+    ensures { IfOk result (λ command. option_map command_view command ≡ forms.frames_in (drop 1 (map string_bytes words.entry.now))) }
+{
+    match read_frames(alloc, words) {
+        Ok(found) => Ok(of_frames(&found)),
+        Err(e) => {
+            if is_out_of_memory(&e) {
+                Err(NoMemory)
+            } else {
+                Ok(None)
+            }
+        }
+    }
+}
+
+/// The command that makes no run which the words ask for; other words ask for none. A word behind the first that begins
+/// with `-` and is not `-` alone is refused here, and the others are counted and read by `clap`.
+pub fn plain_command<'a>(alloc: Global, words: &'a [String]) -> Result<Option<PlainCommand<'a>>, NoMemory>
+    ensures { IfOk result (λ command. option_map command_view command ≡ forms.plain_command_of (map string_bytes words.entry.now)) }
+{
+    if !are_operands(words) {
+        return Ok(None);
+    }
+    if is_named("match", words) {
+        match_command(alloc, words)
+    } else if is_named("frames", words) {
+        frames_command(alloc, words)
+    } else {
+        Ok(None)
+    }
+}
