@@ -1,8 +1,9 @@
+pub mod Chosen
 pub mod WordLemmas
+pub mod NumberLemmas
 pub mod Again
 pub mod LineLemmas
 pub mod Spelled
 pub mod DraftLemmas
 pub mod ReadingLemmas
 pub mod FaultLemmas
-pub mod RoomLemmas

@@ -1,6 +1,5 @@
 -- What the lines above declare.
-use Rattle.std.specs.Prelude.{ℕ, ◌+◌, Bool, true, false, ◌||◌, List, [], ◌∷◌, Option, Some, None, is_some, if◌then◌else◌}
-use Rattle.std.specs.Option.{option_map}
+use Rattle.std.specs.Prelude.{ℕ, ◌+◌, Bool, false, ◌||◌, List, [], ◌∷◌, Option, Some, None, if◌then◌else◌}
 use Rattle.std.specs.Str.{bytes_eq}
 use Rattle.wx_script.specs.declared.scene.SceneExtension.{SceneExtension}
 use Rattle.wx_script.specs.declared.scene.SceneEndpoint.{SceneEndpoint}
