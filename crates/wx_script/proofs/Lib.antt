@@ -5,5 +5,6 @@ pub mod Again
 pub mod LineLemmas
 pub mod Spelled
 pub mod DraftLemmas
+pub mod NameLemmas
 pub mod ReadingLemmas
 pub mod FaultLemmas

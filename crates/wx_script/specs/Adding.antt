@@ -7,10 +7,17 @@ use Rattle.wx_script.specs.declared.scene.SceneKind.{SceneKind}
 use Rattle.wx_script.specs.declared.draft.Draft as code
 use Rattle.wx_script.specs.declared.draft.LineFault.{LineFault}
 use Rattle.wx_script.specs.declared.draft.LineFault.TheVariants as fault
+use Rattle.wx_script.specs.Names.{names_of, ids_of, endpoint_names_of}
 use Rattle.wx_script.specs.Draft.{Draft}
 
 abbrev pub so_far : code.Draft → Draft
-so_far d = record { extensions = d.extensions.items; endpoints = d.endpoints.items; variables = d.variables.items }
+so_far d = record { extensions = d.extensions.items; endpoints = d.endpoints.items; variables = d.variables }
+
+-- the names and ids by which the code finds what is declared are those of what is declared
+pub record IsIndexed (d : code.Draft) : Type 0 where
+  pub extension_names : d.extension_names ≡ names_of d.extensions.items
+  pub extension_ids : d.extension_ids ≡ ids_of d.extensions.items
+  pub endpoint_names : d.endpoint_names ≡ endpoint_names_of d.endpoints.items
 
 abbrev pub IsFault : {A : Type 0} → LineFault → Result A SceneKind → Type 0
 IsFault fault.NoMemory made = Unit {0}

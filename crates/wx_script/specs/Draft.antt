@@ -1,5 +1,5 @@
 -- The scene so far, and what one more line makes of it.
-use Rattle.std.specs.Prelude.{ℕ, not, List, [], ◌∷◌, ◌++◌, length, Option, Some, None, Result, Ok, Err, ◌==◌, nat_le, is_some, if◌then◌else◌}
+use Rattle.std.specs.Prelude.{ℕ, not, List, [], ◌∷◌, ◌++◌, length, Option, Some, None, Result, Ok, Err, ◌==◌, nat_le, if◌then◌else◌}
 use Rattle.wx_id.specs.Ids.{is_extension_id}
 use Rattle.wx_machine.specs.declared.contexts.Context.TheVariants.{Page}
 use Rattle.wx_machine.specs.declared.contexts.Target.TheVariants.{Own}
@@ -13,7 +13,7 @@ use Rattle.wx_script.specs.declared.scene.SceneEndpoint.{SceneEndpoint}
 use Rattle.wx_script.specs.declared.scene.SceneKind.{SceneKind}
 use Rattle.wx_script.specs.declared.scene.SceneKind.TheVariants as kind
 use Rattle.wx_json.specs.Test.{is_json_text}
-use Rattle.wx_script.specs.Names.{has_extension, has_endpoint, id_under, place_in}
+use Rattle.wx_script.specs.Names.{has_extension, has_endpoint, id_under, place_in, binding}
 use Rattle.wx_script.specs.Line.{NamedAct, NamedCommand, Line, listen, connect, post, disconnect, take_one, await_connect, await_message, await_close, echo, plain, repeat, comment, extension, page, script}
 
 pub record Draft : Type 0 where
@@ -47,10 +47,6 @@ page_added d name ext path = if has_endpoint name d.endpoints then Err kind.Repe
 
 abbrev pub var : ℕ → Var
 var n = record { 0 = n }
-
--- the variables, with one that is bound now
-abbrev pub binding : List ℕ → List (List ℕ) → List (List ℕ)
-binding name variables = if is_some (place_in name variables) then variables else variables ++ name ∷ []
 
 abbrev pub place_or_next : Option ℕ → List (List ℕ) → ℕ
 place_or_next None variables = length variables

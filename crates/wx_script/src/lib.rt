@@ -4,6 +4,7 @@
 mod draft;
 pub mod laws;
 mod line;
+mod names;
 mod reading;
 mod scene;
 mod script;

@@ -1,5 +1,5 @@
-ghost use Rattle.std.specs.Prelude.{◌≡◌, ◌<◌, ◌^◌, length, IfErr};
-ghost use Rattle.wx_script.specs.Adding.{so_far, Makes};
+ghost use Rattle.std.specs.Prelude.{◌≡◌, ◌<◌, ◌^◌, length, OnOk, IfErr};
+ghost use Rattle.wx_script.specs.Adding.{so_far, IsIndexed, Makes};
 ghost use Rattle.wx_script.specs.Draft.{fresh};
 ghost use Rattle.wx_script.specs.Reading.{first_line, behind_line, Reads, ReadsIt, NamesALine};
 ghost use Rattle.wx_script.specs.declared.scene.SceneReadFault.TheVariants as fault;
@@ -27,7 +27,9 @@ fn split_line(text: &[u8]) -> (&[u8], &[u8])
 }
 
 fn add_text(draft: &mut Draft, alloc: Global, text: &[u8]) -> Result<(), LineFault>
-    ensures { Makes (so_far draft.new) result (text_added (so_far draft.old) text.now) }
+    requires { IsIndexed draft.old }
+    ensures made { Makes (so_far draft.new) result (text_added (so_far draft.old) text.now) }
+    ensures indexed { OnOk result (IsIndexed draft.new) }
 {
     match line_of(text) {
         Some(line) => add_line(draft, alloc, line),
@@ -44,7 +46,8 @@ fn bad(line: u64, kind: SceneKind) -> SceneReadFault
 /// Takes the lines behind the head line.
 #[tactic(auto, using(crate::proofs::ReadingLemmas::lines))]
 fn add_lines(draft: &mut Draft, alloc: Global, text: &[u8]) -> Result<(), SceneReadFault>
-    requires { length text.now < 2 ^ 63 }
+    requires numbers { length text.now < 2 ^ 63 }
+    requires indexed { IsIndexed draft.old }
     ensures { Reads (so_far draft.new) result (lines_added 2 (so_far draft.old) (lines_of text.now)) }
 {
     let mut left = text;
@@ -62,22 +65,12 @@ fn add_lines(draft: &mut Draft, alloc: Global, text: &[u8]) -> Result<(), SceneR
     Ok(())
 }
 
-fn fresh_draft(alloc: Global) -> Draft
-    ensures { so_far result ≡ fresh }
-{
-    Draft {
-        extensions: Vec::new(alloc),
-        endpoints: Vec::new(alloc),
-        variables: Vec::new(alloc),
-    }
-}
-
 /// The scene of the lines behind the head line.
 fn read_body(alloc: Global, text: &[u8]) -> Result<Scene, SceneReadFault>
     requires { length text.now < 2 ^ 63 }
     ensures { ReadsIt result (scene_from (lines_added 2 fresh (lines_of text.now))) }
 {
-    let mut draft = fresh_draft(alloc);
+    let mut draft = Draft::new(alloc);
     match add_lines(&mut draft, alloc, text) {
         Ok(()) => {
             let Draft {

@@ -1,5 +1,5 @@
 use Rattle.std.proofs.Common.{◌≡◌, ◌+◌, ◌<◌, ◌^◌, length}
-use Rattle.wx_script.specs.Adding.{so_far}
+use Rattle.wx_script.specs.Adding.{so_far, IsIndexed}
 use Rattle.wx_script.specs.Scene.{lines_of, lines_added}
 use Rattle.wx_script.proofs.reading.add_lines.Given as goal
 
@@ -7,6 +7,7 @@ use Rattle.wx_script.proofs.reading.add_lines.Given as goal
 abbrev pub invariant-loop-left : goal.invariant-loop-left
 invariant-loop-left l = record {
   reads : lines_added l.number (so_far l.draft) (lines_of l.left) ≡ lines_added 2 (so_far l.fn.draft) (lines_of l.fn.text);
+  indexed : IsIndexed l.draft;
   numbers : l.number + length l.left < 2 ^ 63 + 2;
 }
 
