@@ -8,3 +8,4 @@ pub mod DraftLemmas
 pub mod NameLemmas
 pub mod ReadingLemmas
 pub mod FaultLemmas
+pub mod SoundLemmas

@@ -1,4 +1,4 @@
-use Rattle.std.proofs.Common.{◌≡◌, ◌∙◌, ap, map}
+use Rattle.std.proofs.Common.{◌∙◌, ap, map}
 use Rattle.std.specs.Prelude.{string_bytes}
 use Rattle.wx_script.specs.Names.{binding}
 use Rattle.wx_script.proofs.NameLemmas.{inserted}
