@@ -5,6 +5,7 @@ mod draft;
 pub mod endings;
 pub mod laws;
 mod line;
+mod names;
 mod reading;
 mod scene;
 mod script;
