@@ -35,10 +35,18 @@ def samples():
     ]
     yield "records", json.dumps(records, separators=(",", ":")).encode()
     yield "records, indented", json.dumps(records[:120_000], indent=2).encode()
+    yield "white space", white_space()
     yield "real numbers", json.dumps([random.uniform(-1000, 1000) for _ in range(1_000_000)]).encode()
     yield "whole numbers", json.dumps([random.randrange(10 ** random.randrange(1, 12)) for _ in range(2_000_000)]).encode()
+    yield "long numbers", json.dumps([random.randrange(10 ** random.randrange(30, 90)) for _ in range(400_000)]).encode()
     yield "beyond ASCII", ('"' + "åäö 日本語のテキスト 🦀 " * 500_000 + '"').encode()
     yield "escapes", b'"' + rb"one line of text\n\tand \"quoted\" \u00e9 words\n" * 500_000 + b'"'
+
+
+def white_space():
+    """Numbers between runs of up to 80 spaces, tabs, line feeds and carriage returns."""
+    runs = ["".join(random.choice(" \t\r\n") for _ in range(random.randrange(80))) for _ in range(1000)]
+    return ("[1" + "".join(random.choice(runs) + "," + random.choice(runs) + "2" for _ in range(300_000)) + "]").encode()
 
 
 def spent(program, path, times, piece):

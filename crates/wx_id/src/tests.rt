@@ -1,4 +1,7 @@
-use crate::{BadId, ExtensionId, Utf8Text};
+use crate::{
+    BadId, ChannelNo, ContextNo, End, EntryNo, Event, EventKind, ExtensionId, FrameId, HostName,
+    HostNameFault, HostNo, NoMemory, RequestNo, TabId, Utf8Text,
+};
 use std::test::Fail;
 
 #[test]
@@ -34,4 +37,26 @@ fn texts(rt: HostRuntime) -> Result<(), Fail> {
         Err(_) => assert!(rt; false),
     }
     Ok(())
+}
+
+fn crosses_threads<T: Send + Sync>() {}
+
+#[test]
+fn types_cross_threads() {
+    crosses_threads::<ExtensionId>();
+    crosses_threads::<BadId>();
+    crosses_threads::<HostName>();
+    crosses_threads::<HostNameFault>();
+    crosses_threads::<Utf8Text>();
+    crosses_threads::<NoMemory>();
+    crosses_threads::<ContextNo>();
+    crosses_threads::<ChannelNo>();
+    crosses_threads::<RequestNo>();
+    crosses_threads::<HostNo>();
+    crosses_threads::<EntryNo>();
+    crosses_threads::<TabId>();
+    crosses_threads::<FrameId>();
+    crosses_threads::<EventKind>();
+    crosses_threads::<Event>();
+    crosses_threads::<End>();
 }

@@ -33,7 +33,7 @@ right : (a b : Bool) → b ≡ true → (a || b) ≡ true
 right true b p = refl
 right false b p = p
 
-between : (low high c : ℕ) → low ≤ c → c ≤ high → is_between low high c ≡ true
+pub between : (low high c : ℕ) → low ≤ c → c ≤ high → is_between low high c ≡ true
 between low high c p q = both _ _ (le-leb low c p) (le-leb c high q)
 
 record Plain (c : ℕ) : Type 0 where

@@ -115,27 +115,27 @@ same_coding-true (wants low high i) whole h = cc
 same_coding-true (wants low high i) broken h = cc
 same_coding-true broken v h = cc
 
--- the state that an entry leads to
-abbrev pub settled : ℕ → ℕ
-settled x = cond (x == 0x2B) 0x73 (cond (x == 0x2A) 0x53 x)
+-- the state that an entry leads to from the state s
+abbrev pub settled : ℕ → ℕ → ℕ
+settled s x = cond (x == 0x2B) 0x73 (cond (x == 0x2A) 0x53 (cond (x == 0x3D) s x))
 
-abbrev pub says_goes : ℕ → Coding → Mode → Bool
-says_goes x u m = is_state (settled x) && (same_coding (coding_of (settled x)) u && same_mode (mode_of (settled x)) m)
+abbrev pub says_goes : ℕ → ℕ → Coding → Mode → Bool
+says_goes s x u m = is_state (settled s x) && (same_coding (coding_of (settled s x)) u && same_mode (mode_of (settled s x)) m)
 
--- whether an entry says what the automata do
-abbrev pub says : ℕ → Coding → Action → Bool
-says x broken a = x == 0x21
-says x whole (goes m) = says_goes x whole m
-says x whole opens_array = x == 0x28
-says x whole opens_object = x == 0x3C
-says x whole closes_empty = x == 0x2D
-says x whole closes_array = x == 0x29
-says x whole closes_object = x == 0x3E
-says x whole separates = x == 0x2C
-says x whole fails = x == 0x2E
-says x (wants low high n) (goes m) = says_goes x (wants low high n) m
-says x (wants low high n) fails = x == 0x2E
-says x (wants low high n) a = false
+-- whether an entry at the state s says what the automata do
+abbrev pub says : ℕ → ℕ → Coding → Action → Bool
+says s x broken a = x == 0x21
+says s x whole (goes m) = says_goes s x whole m
+says s x whole opens_array = x == 0x28
+says s x whole opens_object = x == 0x3C
+says s x whole closes_empty = x == 0x2D
+says s x whole closes_array = x == 0x29
+says s x whole closes_object = x == 0x3E
+says s x whole separates = x == 0x2C
+says s x whole fails = x == 0x2E
+says s x (wants low high n) (goes m) = says_goes s x (wants low high n) m
+says s x (wants low high n) fails = x == 0x2E
+says s x (wants low high n) a = false
 
 pub state_bounds : (s : ℕ) → is_state s ≡ true → (64 ≤ s) × (s < 128)
 unfolding is_state
@@ -147,47 +147,54 @@ state_bounds s h = elim (or_cases _ _ h) [
   | inr c ↦ let p = and_parts (nat_le 0x70 s) (nat_le s 0x7A) c in let x = leb-true 0x70 s p.0 in let y = leb-true s 0x7A p.1 in (omega arith, omega arith)
 ]
 
-settled-high : (x : ℕ) → 64 ≤ x → settled x ≡ x
-settled-high x h =
+settled-high : (s x : ℕ) → 64 ≤ x → settled s x ≡ x
+settled-high s x h =
     let a : (x == 0x2B) ≡ false = ne_eqb x 0x2B (λ e. omega arith) in
     let b : (x == 0x2A) ≡ false = ne_eqb x 0x2A (λ e. omega arith) in
-    rw (a, b) refl
+    let d : (x == 0x3D) ≡ false = ne_eqb x 0x3D (λ e. omega arith) in
+    rw (a, b, d) refl
 
-entered-settled : (x : ℕ) (p : Progress) → is_state (settled x) ≡ true → entered x p ≡ went (settled x) p
-unfolding entered
-entered-settled x p h = by_plus (x == 0x2B) refl
-  where
-    P : ℕ → Type 0
-    P x = entered x p ≡ went (settled x) p
+module _ (k n s : ℕ) (σ : List Bool) where
+  abbrev here : Progress
+  here = running k (coding_of s) (mode_of s) n σ
 
-    by_star : (x == 0x2B) ≡ false → (b : Bool) → (x == 0x2A) ≡ b → P x
-    by_star differs true found = subst P (sym (eqb-true x 0x2A found)) refl
-    by_star differs false other =
-        let same : settled x ≡ x = rw (differs, other) refl in
-        let le = (state_bounds x (sym (ap is_state same) ∙ h)).0 in
-        rw (le-leb 0x40 x le, differs, other) refl
+  entered-settled : (x : ℕ) → is_state (settled s x) ≡ true → entered x here ≡ went (settled s x) here
+  unfolding entered
+  entered-settled x h = by_plus (x == 0x2B) refl
+    where
+      P : ℕ → Type 0
+      P x = entered x here ≡ went (settled s x) here
 
-    by_plus : (b : Bool) → (x == 0x2B) ≡ b → P x
-    by_plus true found = subst P (sym (eqb-true x 0x2B found)) refl
-    by_plus false differs = by_star differs (x == 0x2A) refl
+      by_run : (x == 0x2B) ≡ false → (x == 0x2A) ≡ false → (b : Bool) → (x == 0x3D) ≡ b → P x
+      by_run p q true found = subst P (sym (eqb-true x 0x3D found)) refl
+      by_run p q false other =
+          let same : settled s x ≡ x = rw (p, q, other) refl in
+          let le = (state_bounds x (sym (ap is_state same) ∙ h)).0 in
+          rw (le-leb 0x40 x le, p, q, other) refl
 
-module _ (k n : ℕ) (u v : Coding) (m l : Mode) (σ : List Bool) where
-  goes-entered : (x : ℕ) → says_goes x v l ≡ true → entered x (running k u m n σ) ≡ running (suc k) v l n σ
-  goes-entered x h =
-      let a = and_parts (is_state (settled x)) (same_coding (coding_of (settled x)) v && same_mode (mode_of (settled x)) l) h in
-      let b = and_parts (same_coding (coding_of (settled x)) v) (same_mode (mode_of (settled x)) l) a.1 in
-      entered-settled x (running k u m n σ) a.0
-      ∙ ap (λ w. running (suc k) w (mode_of (settled x)) n σ) (same_coding-true _ v b.0)
+      by_star : (x == 0x2B) ≡ false → (b : Bool) → (x == 0x2A) ≡ b → P x
+      by_star p true found = subst P (sym (eqb-true x 0x2A found)) refl
+      by_star p false q = by_run p q (x == 0x3D) refl
+
+      by_plus : (b : Bool) → (x == 0x2B) ≡ b → P x
+      by_plus true found = subst P (sym (eqb-true x 0x2B found)) refl
+      by_plus false p = by_star p (x == 0x2A) refl
+
+  goes-entered : (x : ℕ) (v : Coding) (l : Mode) → says_goes s x v l ≡ true → entered x here ≡ running (suc k) v l n σ
+  goes-entered x v l h =
+      let a = and_parts (is_state (settled s x)) (same_coding (coding_of (settled s x)) v && same_mode (mode_of (settled s x)) l) h in
+      let b = and_parts (same_coding (coding_of (settled s x)) v) (same_mode (mode_of (settled s x)) l) a.1 in
+      entered-settled x a.0
+      ∙ ap (λ w. running (suc k) w (mode_of (settled s x)) n σ) (same_coding-true _ v b.0)
       ∙ ap (λ w. running (suc k) v w n σ) (same_mode-true _ l b.1)
 
-module _ (k n : ℕ) (u : Coding) (m : Mode) (σ : List Bool) where
-  at_entry : (x y : ℕ) (q : Progress) → (x == y) ≡ true → entered y (running k u m n σ) ≡ q → entered x (running k u m n σ) ≡ q
-  at_entry x y q h there = ap (λ x. entered x (running k u m n σ)) (eqb-true x y h) ∙ there
+  at_entry : (x y : ℕ) (q : Progress) → (x == y) ≡ true → entered y here ≡ q → entered x here ≡ q
+  at_entry x y q h there = ap (λ x. entered x here) (eqb-true x y h) ∙ there
 
-  says-entered : (x : ℕ) (v : Coding) (a : Action) → says x v a ≡ true → entered x (running k u m n σ) ≡ coded k v (perform a n σ)
+  says-entered : (x : ℕ) (v : Coding) (a : Action) → says s x v a ≡ true → entered x here ≡ coded k v (perform a n σ)
   unfolding entered mode_of
   says-entered x broken a h = at_entry x 0x21 _ h refl
-  says-entered x whole (goes l) h = goes-entered k n u whole m l σ x h
+  says-entered x whole (goes l) h = goes-entered x whole l h
   says-entered x whole opens_array h = at_entry x 0x28 _ h refl
   says-entered x whole opens_object h = at_entry x 0x3C _ h refl
   says-entered x whole closes_empty h = at_entry x 0x2D _ h refl
@@ -195,7 +202,7 @@ module _ (k n : ℕ) (u : Coding) (m : Mode) (σ : List Bool) where
   says-entered x whole closes_object h = at_entry x 0x3E _ h refl
   says-entered x whole separates h = at_entry x 0x2C _ h refl
   says-entered x whole fails h = at_entry x 0x2E _ h refl
-  says-entered x (wants low high i) (goes l) h = goes-entered k n u (wants low high i) m l σ x h
+  says-entered x (wants low high i) (goes l) h = goes-entered x (wants low high i) l h
   says-entered x (wants low high i) fails h = at_entry x 0x2E _ h refl
   says-entered x (wants low high i) opens_array h = cc
   says-entered x (wants low high i) opens_object h = cc
@@ -204,52 +211,52 @@ module _ (k n : ℕ) (u : Coding) (m : Mode) (σ : List Bool) where
   says-entered x (wants low high i) closes_object h = cc
   says-entered x (wants low high i) separates h = cc
 
-  pub says-advance : (x c : ℕ) → says x (code u c) (action_of m c) ≡ true → entered x (running k u m n σ) ≡ advance (running k u m n σ) c
-  says-advance x c h = says-entered x (code u c) (action_of m c) h ∙ ap (coded k (code u c)) (perform-action_of m c n σ)
+  pub says-advance : (x c : ℕ) → says s x (code (coding_of s) c) (action_of (mode_of s) c) ≡ true → entered x here ≡ advance here c
+  says-advance x c h = says-entered x (code (coding_of s) c) (action_of (mode_of s) c) h ∙ ap (coded k (code (coding_of s) c)) (perform-action_of (mode_of s) c n σ)
 
 -- an entry that is as great as a state is one
 not_low : (x y : ℕ) → y < 64 → 64 ≤ x → (x == y) ≡ true → ⊥
 not_low x y low high h = let e = eqb-true x y h in omega arith
 
-goes-state : (x : ℕ) (u : Coding) (m : Mode) → 64 ≤ x → says_goes x u m ≡ true → is_state x ≡ true
-goes-state x u m high h =
-    sym (ap is_state (settled-high x high)) ∙ (and_parts (is_state (settled x)) (same_coding (coding_of (settled x)) u && same_mode (mode_of (settled x)) m) h).0
+goes-state : (s x : ℕ) (u : Coding) (m : Mode) → 64 ≤ x → says_goes s x u m ≡ true → is_state x ≡ true
+goes-state s x u m high h =
+    sym (ap is_state (settled-high s x high)) ∙ (and_parts (is_state (settled s x)) (same_coding (coding_of (settled s x)) u && same_mode (mode_of (settled s x)) m) h).0
 
-pub says-state : (x : ℕ) (v : Coding) (a : Action) → 64 ≤ x → says x v a ≡ true → is_state x ≡ true
-says-state x broken a le h = absurd (not_low x 0x21 (lit< tt) le h)
-says-state x whole (goes l) le h = goes-state x whole l le h
-says-state x whole opens_array le h = absurd (not_low x 0x28 (lit< tt) le h)
-says-state x whole opens_object le h = absurd (not_low x 0x3C (lit< tt) le h)
-says-state x whole closes_empty le h = absurd (not_low x 0x2D (lit< tt) le h)
-says-state x whole closes_array le h = absurd (not_low x 0x29 (lit< tt) le h)
-says-state x whole closes_object le h = absurd (not_low x 0x3E (lit< tt) le h)
-says-state x whole separates le h = absurd (not_low x 0x2C (lit< tt) le h)
-says-state x whole fails le h = absurd (not_low x 0x2E (lit< tt) le h)
-says-state x (wants low high i) (goes l) le h = goes-state x (wants low high i) l le h
-says-state x (wants low high i) fails le h = absurd (not_low x 0x2E (lit< tt) le h)
-says-state x (wants low high i) opens_array le h = cc
-says-state x (wants low high i) opens_object le h = cc
-says-state x (wants low high i) closes_empty le h = cc
-says-state x (wants low high i) closes_array le h = cc
-says-state x (wants low high i) closes_object le h = cc
-says-state x (wants low high i) separates le h = cc
+pub says-state : (s x : ℕ) (v : Coding) (a : Action) → 64 ≤ x → says s x v a ≡ true → is_state x ≡ true
+says-state s x broken a le h = absurd (not_low x 0x21 (lit< tt) le h)
+says-state s x whole (goes l) le h = goes-state s x whole l le h
+says-state s x whole opens_array le h = absurd (not_low x 0x28 (lit< tt) le h)
+says-state s x whole opens_object le h = absurd (not_low x 0x3C (lit< tt) le h)
+says-state s x whole closes_empty le h = absurd (not_low x 0x2D (lit< tt) le h)
+says-state s x whole closes_array le h = absurd (not_low x 0x29 (lit< tt) le h)
+says-state s x whole closes_object le h = absurd (not_low x 0x3E (lit< tt) le h)
+says-state s x whole separates le h = absurd (not_low x 0x2C (lit< tt) le h)
+says-state s x whole fails le h = absurd (not_low x 0x2E (lit< tt) le h)
+says-state s x (wants low high i) (goes l) le h = goes-state s x (wants low high i) l le h
+says-state s x (wants low high i) fails le h = absurd (not_low x 0x2E (lit< tt) le h)
+says-state s x (wants low high i) opens_array le h = cc
+says-state s x (wants low high i) opens_object le h = cc
+says-state s x (wants low high i) closes_empty le h = cc
+says-state s x (wants low high i) closes_array le h = cc
+says-state s x (wants low high i) closes_object le h = cc
+says-state s x (wants low high i) separates le h = cc
 
 -- the entries of a byte from a state on
 abbrev pub row_ok : ℕ → ℕ → List ℕ → Bool
 row_ok c s [] = true
-row_ok c s (x ∷ row) = cond (is_state s) (says x (code (coding_of s) c) (action_of (mode_of s) c)) true && row_ok c (suc s) row
+row_ok c s (x ∷ row) = cond (is_state s) (says s x (code (coding_of s) c) (action_of (mode_of s) c)) true && row_ok c (suc s) row
 
-row_at : (c s : ℕ) (row : List ℕ) (i : ℕ) → row_ok c s row ≡ true → i < length row → is_state (s + i) ≡ true → says (get_or row i 0) (code (coding_of (s + i)) c) (action_of (mode_of (s + i)) c) ≡ true
+row_at : (c s : ℕ) (row : List ℕ) (i : ℕ) → row_ok c s row ≡ true → i < length row → is_state (s + i) ≡ true → says (s + i) (get_or row i 0) (code (coding_of (s + i)) c) (action_of (mode_of (s + i)) c) ≡ true
 row_at c s [] i h lt state = absurd (omega arith)
 row_at c s (x ∷ row) zero h lt state =
-    let P : ℕ → Type 0 = λ t. is_state t ≡ true → says x (code (coding_of t) c) (action_of (mode_of t) c) ≡ true in
+    let P : ℕ → Type 0 = λ t. is_state t ≡ true → says t x (code (coding_of t) c) (action_of (mode_of t) c) ≡ true in
     let here = (and_parts _ (row_ok c (suc s) row) h).0 in
     subst P (add-zero' s) (λ yes. sym (cond-true (is_state s) _ true yes) ∙ here) state
   where
     add-zero' : (s : ℕ) → s ≡ s + 0
     add-zero' s = omega arith
 row_at c s (x ∷ row) (suc i) h lt state =
-    let P : ℕ → Type 0 = λ t. is_state t ≡ true → says (get_or row i 0) (code (coding_of t) c) (action_of (mode_of t) c) ≡ true in
+    let P : ℕ → Type 0 = λ t. is_state t ≡ true → says t (get_or row i 0) (code (coding_of t) c) (action_of (mode_of t) c) ≡ true in
     let sum : suc s + i ≡ s + suc i = omega arith in
     subst P sum (row_at c (suc s) row i (and_parts _ (row_ok c (suc s) row) h).1 (omega arith)) state
 
@@ -277,12 +284,12 @@ module _ (classes : List ℕ) (table : List (List ℕ)) (ok : table_ok classes t
   abbrev row : List ℕ
   row = get_or table (get_or classes c 0 - 48) []
 
-  pub entry_at : (s : ℕ) → is_state s ≡ true → says (get_or row (s - 64) 0) (code (coding_of s) c) (action_of (mode_of s) c) ≡ true
+  pub entry_at : (s : ℕ) → is_state s ≡ true → says s (get_or row (s - 64) 0) (code (coding_of s) c) (action_of (mode_of s) c) ≡ true
   entry_at s h =
       let a = and_parts _ _ byte_at in let b = and_parts _ _ a.1 in
       let parts = and_parts (length row == 64) (row_ok c 64 row) b.1 in
       let long = eqb-true (length row) 64 parts.0 in
       let bounds = state_bounds s h in
-      let P : ℕ → Type 0 = λ t. is_state t ≡ true → says (get_or row (s - 64) 0) (code (coding_of t) c) (action_of (mode_of t) c) ≡ true in
+      let P : ℕ → Type 0 = λ t. is_state t ≡ true → says t (get_or row (s - 64) 0) (code (coding_of t) c) (action_of (mode_of t) c) ≡ true in
       let sum : 64 + (s - 64) ≡ s = omega (arith, bounds.0) in
       subst P sum (row_at c 64 row (s - 64) parts.1 (omega (arith, bounds.1, long))) h

@@ -40,9 +40,13 @@ coding_of s =
 abbrev pub is_in_string : ℕ → Bool
 is_in_string s = s == 0x73 || s == 0x53
 
--- the states behind a bracket that opens and behind a comma, where white space changes nothing
-abbrev pub is_between_values : ℕ → Bool
-is_between_values s = s == 0x41 || s == 0x4F || s == 0x57 || s == 0x4E
+-- the states between two tokens, where white space changes nothing
+abbrev pub is_between_tokens : ℕ → Bool
+is_between_tokens s = s == 0x41 || s == 0x4F || s == 0x57 || s == 0x4E || s == 0x43 || s == 0x5A
+
+-- the states in a number where a digit changes nothing
+abbrev pub is_in_digits : ℕ → Bool
+is_in_digits s = s == 0x6E || s == 0x63 || s == 0x77
 
 -- the states where a text may end, outside of all containers
 abbrev pub is_end : ℕ → Bool
@@ -52,6 +56,11 @@ is_end s = s == 0x5A || s == 0x7A || s == 0x6E || s == 0x63 || s == 0x77
 abbrev pub went : ℕ → Progress → Progress
 went s (running k u m n σ) = running (suc k) (coding_of s) (mode_of s) n σ
 went s (failed f) = failed f
+
+-- .. the same state, ..
+abbrev pub stayed : Progress → Progress
+stayed (running k u m n σ) = running (suc k) u m n σ
+stayed (failed f) = failed f
 
 -- .. a container that opens, ..
 abbrev pub opened : ℕ → Bool → Progress → Progress
@@ -78,12 +87,13 @@ abbrev pub refused : JsonKind → Progress → Progress
 refused kind (running k u m n σ) = failed (record { place = k; kind = kind })
 refused kind (failed f) = failed f
 
--- what an entry does: a letter is the next state, + and * are s and S
+-- what an entry does: a letter is the next state, + and * are s and S, = is the state itself
 unfoldable pub entered : ℕ → Progress → Progress
 entered x p =
     cond (nat_le 0x40 x) (went x p)
     (cond (x == 0x2B) (went 0x73 p)
     (cond (x == 0x2A) (went 0x53 p)
+    (cond (x == 0x3D) (stayed p)
     (cond (x == 0x2C) (separated p)
     (cond (x == 0x28) (opened 0x41 false p)
     (cond (x == 0x3C) (opened 0x4F true p)
@@ -91,11 +101,11 @@ entered x p =
     (cond (x == 0x29) (closed false p)
     (cond (x == 0x3E) (closed true p)
     (cond (x == 0x21) (refused Utf8 p)
-    (refused Syntax p))))))))))
+    (refused Syntax p)))))))))))
 
--- the state to which an entry leads that asks for no more than that, or 0
-abbrev pub next_of : ℕ → ℕ → ℕ
-next_of x after_comma = cond (x == 0x2B) 0x73 (cond (x == 0x2A) 0x53 (cond (x == 0x2C) after_comma 0))
+-- the state to which an entry leads from a state, if it asks for no more than that, or 0
+abbrev pub next_of : ℕ → ℕ → ℕ → ℕ
+next_of x s after_comma = cond (x == 0x2B) 0x73 (cond (x == 0x2A) 0x53 (cond (x == 0x3D) s (cond (x == 0x2C) after_comma 0)))
 
 -- These bytes, so many, lead from one state to another, with these containers open; with any.
 abbrev pub LeadsAt : List Bool → ℕ → ℕ → List ℕ → ℕ → Type 0

@@ -7,8 +7,8 @@ ghost use Rattle.wx_json.specs.Check.{Stands, taken, advance, advances, IsRunnin
 
 use crate::levels::{kind_at, put_kind};
 use crate::transitions::{
-    BAD_UTF8, CLOSE_ARRAY, CLOSE_EMPTY, CLOSE_OBJECT, COMMA, NAME, OPEN_ARRAY, OPEN_OBJECT, STRING,
-    Stop, travel,
+    BAD_UTF8, CLOSE_ARRAY, CLOSE_EMPTY, CLOSE_OBJECT, COMMA, NAME, OPEN_ARRAY, OPEN_OBJECT, RUN,
+    STRING, Stop, travel,
 };
 use crate::{JsonFault, JsonKind};
 use std::marker::Model;
@@ -170,6 +170,7 @@ impl JsonCheck {
         match entry {
             STRING => self.enter(b's'),
             NAME => self.enter(b'S'),
+            RUN => self.enter(self.state),
             COMMA => self.separate(),
             OPEN_ARRAY => self.open(b'A', false),
             OPEN_OBJECT => self.open(b'O', true),

@@ -165,3 +165,13 @@ fn a_text_from_its_check(rt: HostRuntime) -> Result<(), Fail> {
     }
     Ok(())
 }
+
+fn crosses_threads<T: Send + Sync>() {}
+
+#[test]
+fn types_cross_threads() {
+    crosses_threads::<JsonText>();
+    crosses_threads::<JsonCheck>();
+    crosses_threads::<JsonFault>();
+    crosses_threads::<JsonKind>();
+}

@@ -18,10 +18,10 @@
 //! | `x` `y` `w` | behind an exponent's E; its sign; its digits |
 //! | `P` `Q` `R`, `L` `M` `X` `Y`, `l` `q` `r` | behind so many letters of `true`, `false`, `null` |
 ghost use Rattle.std.specs.Prelude.{◌≡◌, ◌≤◌, ◌-◌, ◌<◌, ℕ, List, Bool, true, length, take, drop, get_or};
-ghost use Rattle.wx_json.specs.States.{is_state, is_in_string, is_between_values, mode_of, coding_of, entered, next_of, Leads, LeadsAt, Asks, CommaLeads};
+ghost use Rattle.wx_json.specs.States.{is_state, is_in_string, is_between_tokens, is_in_digits, mode_of, coding_of, entered, next_of, Leads, LeadsAt, Asks, CommaLeads};
 ghost use Rattle.wx_json.specs.Check.{running, advance};
 
-use crate::runs::{indent_end, plain_end};
+use crate::runs::{digits_end, plain_end, white_end};
 
 /// An entry from here on is the next state. One below asks for more than a state:
 pub(crate) const FIRST_STATE: u8 = b'@';
@@ -29,6 +29,8 @@ pub(crate) const FIRST_STATE: u8 = b'@';
 pub(crate) const STRING: u8 = b'+';
 /// a member's name goes on,
 pub(crate) const NAME: u8 = b'*';
+/// a run of white space or digits, which leave the state as it is, goes on,
+pub(crate) const RUN: u8 = b'=';
 /// a comma behind a value,
 pub(crate) const COMMA: u8 = b',';
 /// an array or an object opens,
@@ -59,8 +61,8 @@ static CLASSES: [u8; 256] = *b"\
 #[rattlefmt::skip]
 static TRANSITIONS: [[u8; 64]; 41] = [
     *b"....!!!!............!!!.............!!!!............!!!.........", // other control characters
-    *b".A.C!!!!......NO....!!!W..Z........Z!!!!......Z.....!!!Z..Z.....", // tab, line feed, carriage return
-    *b".A.C!!!!......NO...S!!!W..Z........Z!!!!......Z....s!!!Z..Z.....", // space
+    *b".=.=!!!!......==....!!!=..=........Z!!!!......Z.....!!!Z..Z.....", // tab, line feed, carriage return
+    *b".=.=!!!!......==...S!!!=..=........Z!!!!......Z....s!!!Z..Z.....", // space
     *b"....!!!!...........S!!!.............!!!!...........s!!!.........", // other bytes of ASCII
     *b".+*.!!!!......**...C!!!+..........+.!!!!...........Z!!!.........", // "
     *b"....!!!!...........S!!!.............!!!!...........s!!!.y.......", // +
@@ -68,8 +70,8 @@ static TRANSITIONS: [[u8; 64]; 41] = [
     *b".m..!!!!...........S!!!m............!!!!...........s!!!.y.......", // -
     *b"....!!!!...........S!!!.............!!!!......p....s!!!...p.....", // .
     *b"..*.!!!!...........S!!!...........+.!!!!...........s!!!.........", // /
-    *b".z..!!!!IJK*.......S!!!z...........c!!!!ijk+.zn.c..s!!!www......", // 0
-    *b".n..!!!!IJK*.......S!!!n...........c!!!!ijk+.nn.c..s!!!www......", // 1 to 9
+    *b".z..!!!!IJK*.......S!!!z...........=!!!!ijk+.z=.c..s!!!=ww......", // 0
+    *b".n..!!!!IJK*.......S!!!n...........=!!!!ijk+.n=.c..s!!!=ww......", // 1 to 9
     *b"...W!!!!...........S!!!.............!!!!...........s!!!.........", // :
     *b"....!!!!IJK*.......S!!!.............!!!!ijk+.......s!!!.........", // A to D, F, c, d
     *b"....!!!!IJK*.......S!!!............x!!!!ijk+..x....s!!!...x.....", // E
@@ -160,15 +162,28 @@ fn in_string(state: u8) -> bool
     state == b's' || state == b'S'
 }
 
-/// Whether the state is behind a bracket that opens or a comma.
+/// Whether the state is between two tokens, neither of them a number.
 #[inline(always)]
-fn between_values(state: u8) -> bool
-    ensures { result ≡ is_between_values state }
+fn between_tokens(state: u8) -> bool
+    ensures { result ≡ is_between_tokens state }
 {
-    state == b'A' || state == b'O' || state == b'W' || state == b'N'
+    state == b'A'
+        || state == b'O'
+        || state == b'W'
+        || state == b'N'
+        || state == b'C'
+        || state == b'Z'
 }
 
-/// Passes over bytes that leave the state as it is: plain ones of a string, and a line's end and indent.
+/// Whether the state is in a number, behind a digit that any other may follow.
+#[inline(always)]
+fn in_digits(state: u8) -> bool
+    ensures { result ≡ is_in_digits state }
+{
+    state == b'n' || state == b'c' || state == b'w'
+}
+
+/// Passes over bytes that leave the state as it is: plain ones of a string, white space and digits.
 #[inline(always)]
 fn skip(state: u8, piece: &[u8], from: usize) -> usize
     requires { from ≤ length piece.now }
@@ -177,8 +192,10 @@ fn skip(state: u8, piece: &[u8], from: usize) -> usize
 {
     if in_string(state) {
         plain_end(piece, from)
-    } else if between_values(state) {
-        indent_end(piece, from)
+    } else if between_tokens(state) {
+        white_end(piece, from)
+    } else if in_digits(state) {
+        digits_end(piece, from)
     } else {
         from
     }
@@ -186,12 +203,13 @@ fn skip(state: u8, piece: &[u8], from: usize) -> usize
 
 /// The state to which an entry leads that asks for no more than that, or 0. A comma leads to `after_comma`.
 #[inline(always)]
-fn plain_next(entry: u8, after_comma: u8) -> u8
-    ensures { result ≡ next_of entry after_comma }
+fn plain_next(entry: u8, state: u8, after_comma: u8) -> u8
+    ensures { result ≡ next_of entry state after_comma }
 {
     match entry {
         STRING => b's',
         NAME => b'S',
+        RUN => state,
         COMMA => after_comma,
         _ => 0,
     }
@@ -216,7 +234,7 @@ pub(crate) fn travel(start: u8, after_comma: u8, piece: &[u8], from: usize) -> S
     while at < piece.len() {
         let begin = skip(state, piece, at);
         let stop = follow(state, piece, begin);
-        let next = plain_next(stop.entry, after_comma);
+        let next = plain_next(stop.entry, stop.state, after_comma);
         if next < FIRST_STATE || stop.at == piece.len() {
             return stop;
         }

@@ -23,7 +23,7 @@ pub bounds-state : goal.bounds-state
 bounds-state c = let b = state_bounds c.args.state c.requires in omega (arith, b.0, b.1)
 
 pub returns-clause-state : goal.returns-clause-state
-returns-clause-state c = λ high. says-state _ _ _ high (entry_at CLASSES TRANSITIONS ok c.args.c (omega arith) c.args.state c.requires)
+returns-clause-state c = λ high. says-state c.args.state _ _ _ high (entry_at CLASSES TRANSITIONS ok c.args.c (omega arith) c.args.state c.requires)
 
 pub returns-clause-value : goal.returns-clause-value
-returns-clause-value c = λ k n σ. says-advance k n (coding_of c.args.state) (mode_of c.args.state) σ _ c.args.c (entry_at CLASSES TRANSITIONS ok c.args.c (omega arith) c.args.state c.requires)
+returns-clause-value c = λ k n σ. says-advance k n c.args.state σ _ c.args.c (entry_at CLASSES TRANSITIONS ok c.args.c (omega arith) c.args.state c.requires)
