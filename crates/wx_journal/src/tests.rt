@@ -1,7 +1,7 @@
 use crate::{Answer, Call, Context, Entry, Journal, JsonText, PagePath, Target, Who};
 use std::alloc::Global;
 use std::test::Fail;
-use wx_id::{ChannelNo, ContextNo, EntryNo, ExtensionId, Utf8Text};
+use wx_id::{ChannelNo, ContextNo, EntryNo, Event, EventKind, ExtensionId, RequestNo, Utf8Text};
 
 fn page(alloc: Global) -> Option<Context> {
     let ext = ExtensionId::read(b"aaaaaaaaaaaaaaaaaaaaaaaaaaaaaaaa").ok()?;
@@ -14,9 +14,18 @@ fn push(journal: &mut Journal, c: u64, call: Call, answer: Answer) -> Option<()>
     journal.push(Entry { who, call, answer }).ok()
 }
 
-fn three_entries(alloc: Global) -> Option<Journal> {
+fn json(alloc: Global, bytes: &[u8]) -> Option<JsonText> {
+    JsonText::new(Vec::from_slice(alloc, bytes).ok()?).ok()
+}
+
+fn closed(r: u64, entry: u64) -> Answer {
+    let (entry, kind) = (EntryNo(entry), EventKind::Closed(RequestNo(r)));
+    Answer::Event(Event { entry, kind })
+}
+
+fn seven_entries(alloc: Global) -> Option<Journal> {
     let mut journal = Journal::new(alloc);
-    journal.reserve(3).ok()?;
+    journal.reserve(7).ok()?;
     push(
         &mut journal,
         0,
@@ -30,28 +39,31 @@ fn three_entries(alloc: Global) -> Option<Journal> {
         Call::Connect(Target::Own, name),
         Answer::NoReceiver,
     )?;
-    let text = JsonText::new(Vec::from_slice(alloc, b"10").ok()?).ok()?;
-    push(
-        &mut journal,
-        0,
-        Call::Post(ChannelNo(7), text),
-        Answer::NoPort,
-    )?;
+    let post = Call::Post(ChannelNo(7), json(alloc, b"10")?);
+    push(&mut journal, 0, post, Answer::NoPort)?;
+    let send = Call::Send(Target::Own, json(alloc, b"[1]")?);
+    push(&mut journal, 0, send, Answer::Request(RequestNo(0)))?;
+    let reply = Call::Reply(RequestNo(3), json(alloc, b"10.5")?);
+    push(&mut journal, 0, reply, Answer::NotYours)?;
+    push(&mut journal, 0, Call::Decline(RequestNo(3)), Answer::Late)?;
+    push(&mut journal, 0, Call::Take, closed(2, 9))?;
     Some(journal)
 }
 
 #[test]
 fn journal_and_text(rt: HostRuntime) -> Result<(), Fail> {
-    match three_entries(rt.alloc()) {
+    match seven_entries(rt.alloc()) {
         Some(journal) => {
-            assert_eq!(rt; journal.len(), 3);
+            assert_eq!(rt; journal.len(), 7);
             assert_eq!(rt; journal.text_of(EntryNo(2)).map(|text| text.len()), Some(2));
-            assert!(rt; journal.text_of(EntryNo(1)).is_none());
-            assert!(rt; journal.entry(EntryNo(3)).is_none());
+            assert_eq!(rt; journal.text_of(EntryNo(3)).map(|text| text.len()), Some(3));
+            assert_eq!(rt; journal.text_of(EntryNo(4)).map(|text| text.len()), Some(4));
+            assert!(rt; journal.text_of(EntryNo(5)).is_none());
+            assert!(rt; journal.entry(EntryNo(7)).is_none());
             match journal.print(rt.alloc()) {
                 Ok(text) => assert_eq!(rt;
                     text.as_slice(),
-                    b"wx journal 1 chrome\nc0 enter page aaaaaaaaaaaaaaaaaaaaaaaaaaaaaaaa 2:/q -> context 0\nc0 connect own 3:a\nb -> no_receiver\nc0 post 7 2:10 -> no_port\n".as_slice()
+                    b"wx journal 1 chrome\nc0 enter page aaaaaaaaaaaaaaaaaaaaaaaaaaaaaaaa 2:/q -> context 0\nc0 connect own 3:a\nb -> no_receiver\nc0 post 7 2:10 -> no_port\nc0 send own 3:[1] -> request 0\nc0 reply 3 4:10.5 -> not_yours\nc0 decline 3 -> late\nc0 take -> closed 2 9\n".as_slice()
                 ),
                 Err(_) => assert!(rt; false),
             }
