@@ -1,7 +1,7 @@
 -- The definitions at worked examples, computed.
 use Rattle.std.specs.Prelude.{◌≡◌, refl, codes, Some, None}
 use Rattle.url.proofs.OnLiterals.{url_on_literals}
-use Rattle.wx_context.specs.WebUrls.{is_web, web_url_of, is_web_url}
+use Rattle.wx_context.specs.WebUrls.{is_web, web_url_of}
 
 an_https_url : web_url_of (codes "HTTPS://A.b") ≡ Some (codes "https://a.b/")
 unfolding web_url_of is_web url_on_literals

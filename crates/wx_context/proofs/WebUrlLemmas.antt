@@ -1,14 +1,14 @@
 -- The own text of a web URL is read as that URL again.
-use Rattle.std.proofs.Common.{◌≡◌, ℕ, ◌≤◌, List, length, Bool, true, false, cond, Some, None, Ok, refl, sym, ap, ◌∙◌, subst, inl, inr, arith}
-use Rattle.std.specs.Prelude.{◌&&◌, ◌||◌, nat_le, codes, bytes_eq}
-use Rattle.std.proofs.lemmas.Bool.{cases_Bool, cond-true, and_parts}
+use Rattle.std.proofs.Common.{◌≡◌, ℕ, List, length, true, None, Ok, refl, sym, ap, ◌∙◌, inl, inr}
+use Rattle.std.specs.Prelude.{◌||◌, nat_le, codes, bytes_eq}
+use Rattle.std.proofs.lemmas.Bool.{cases_Bool, and_parts}
 use Rattle.std.proofs.lemmas.Slice.Eq.{bytes_eq-Decides}
 use Rattle.url.specs.declared.scheme.SchemeType.TheVariants.{SpecialNotFile}
-use Rattle.url.specs.Parts.{Parts, kind_of, serialize, IsValid}
+use Rattle.url.specs.Parts.{Parts, serialize, IsValid}
 use Rattle.url.specs.Parser.{parse_url}
 use Rattle.url.specs.Scheme.{scheme_type, default_port}
 use Rattle.url.proofs.Theorems.{parse_url-serialize_special}
-use Rattle.wx_context.specs.WebUrls.{url_limit, is_web_scheme, is_web, web_text, web_url_of, is_web_url}
+use Rattle.wx_context.specs.WebUrls.{url_limit, is_web_scheme, is_web, web_url_of, is_web_url}
 
 special : (scheme : List ℕ) → is_web_scheme scheme ≡ true → scheme_type scheme ≡ SpecialNotFile
 unfolding scheme_type default_port

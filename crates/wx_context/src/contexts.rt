@@ -8,7 +8,10 @@ use wx_id::{ExtensionId, FrameId, NoMemory, TabId};
 #[derive(Debug, Drop)]
 pub enum Context {
     /// A page of an extension, as its popup, or its service worker.
-    Page { ext: ExtensionId, path: PagePath },
+    Page {
+        ext: ExtensionId,
+        path: PagePath,
+    },
     /// A content script of an extension, in the document at that address in a frame of a tab.
     Content {
         ext: ExtensionId,

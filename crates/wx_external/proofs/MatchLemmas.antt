@@ -1,9 +1,9 @@
 -- The match test is the match relation.
-use Rattle.std.proofs.Common.{◌≡◌, ◌≢◌, ℕ, List, [], ◌∷◌, ◌++◌, Bool, true, false, cond, Some, None, Option, refl, sym, ap, ◌∙◌, subst, inl, inr, ⊎_elim}
-use Rattle.std.specs.Prelude.{◌&&◌, ◌||◌, ◌==◌, ◌⊎◌, ◌↔◌, IsTrue, codes, bytes_eq}
+use Rattle.std.proofs.Common.{◌≡◌, ◌≢◌, ℕ, List, [], ◌∷◌, ◌++◌, Bool, true, false, Some, None, Option, refl, sym, ap, ◌∙◌, subst, inl, inr}
+use Rattle.std.specs.Prelude.{◌&&◌, ◌||◌, ◌==◌, ◌↔◌, IsTrue, codes, bytes_eq}
 use Rattle.std.specs.Bool.{Decides, one_answer}
 use Rattle.std.specs.List.{list_any}
-use Rattle.std.proofs.lemmas.Bool.{cases_Bool, cond-true, cond-false, and_parts, or_left, or_right, eqb-false}
+use Rattle.std.proofs.lemmas.Bool.{cases_Bool, cond-true, cond-false, and_parts, eqb-false}
 use Rattle.std.proofs.lemmas.Bool.Decides.{Decides-or, Decides-and}
 use Rattle.std.proofs.lemmas.Slice.Eq.{bytes_eq-Decides}
 use Rattle.std.proofs.Common.{eqb-true, eq-eqb, ne_eqb}
@@ -17,7 +17,7 @@ use Rattle.wx_match_pattern.specs.Meets.{Meets, SchemeAgrees, HostAgrees, NameAg
 use Rattle.wx_match_pattern.specs.Pattern.{HostPart, no_host, any_host, below, named, PatternParts, all_urls, parts}
 use Rattle.wx_manifest.specs.ExtensionManifests.{Manifest, SomeMeets, AdmitsUrl, patterns_in}
 use Rattle.wx_context.specs.WebUrls.{is_web_scheme}
-use Rattle.wx_external.specs.Matching.{some_suffix, rest_passes, is_empty, globs, scheme_agrees, is_same_name, is_below, name_agrees, host_agrees, meets, admits_url}
+use Rattle.wx_external.specs.Matching.{some_suffix, rest_passes, globs, scheme_agrees, is_same_name, is_below, name_agrees, host_agrees, meets, admits_url}
 
 -- ---- suffixes
 
@@ -86,12 +86,12 @@ is_below-Decides : (name host : List ℕ) → Decides (is_below name host) (IsBe
 is_below-Decides name host =
     let test = λ (suffix : List ℕ). bytes_eq suffix (dot ∷ lowercase name) in (
       λ h.
-      let found = suffix_found test (lowercase host) h in
-      let is = (bytes_eq-Decides found.1 (dot ∷ lowercase name)).0 found.3 in
-      (found.0, found.2 ∙ ap (λ t. found.0 ++ t) is),
+          let found = suffix_found test (lowercase host) h in
+          let is = (bytes_eq-Decides found.1 (dot ∷ lowercase name)).0 found.3 in
+          (found.0, found.2 ∙ ap (λ t. found.0 ++ t) is),
       λ below.
-      subst (λ (t : List ℕ). some_suffix test t ≡ true) (sym below.1)
-      (suffix_passes test below.0 (dot ∷ lowercase name) ((bytes_eq-Decides (dot ∷ lowercase name) (dot ∷ lowercase name)).1 refl)),
+          subst (λ (t : List ℕ). some_suffix test t ≡ true) (sym below.1)
+          (suffix_passes test below.0 (dot ∷ lowercase name) ((bytes_eq-Decides (dot ∷ lowercase name) (dot ∷ lowercase name)).1 refl)),
     )
 
 same_name-Decides : (name host : List ℕ) → Decides (is_same_name name host) (IsSameName name host)

@@ -1,5 +1,5 @@
 -- What the broker knows of extensions and native hosts.
-use Rattle.std.specs.Prelude.{ℕ, Bool, List, Option, find, position, option_map, bytes_eq}
+use Rattle.std.specs.Prelude.{ℕ, Bool, true, not, ◌&&◌, List, [], ◌∷◌, Option, find, position, option_map, bytes_eq}
 use Rattle.std.specs.List.{list_any}
 use Rattle.wx_manifest.specs.ExtensionManifests.{Manifest}
 use Rattle.wx_host_manifest.specs.HostManifests.{Host}
@@ -9,6 +9,19 @@ use Rattle.wx_external.specs.declared.world.Installed.{Installed}
 pub record WorldLists : Type 0 where
   pub extensions : List Installed
   pub hosts : List Host
+
+-- no two have one key
+abbrev pub are_apart : {X : Type 0} → (X → List ℕ) → List X → Bool
+are_apart key [] = true
+are_apart key (x ∷ xs) = not (list_any (λ y. bytes_eq (key y) (key x)) xs) && are_apart key xs
+
+-- no two extensions have one id
+abbrev pub ids_are_apart : List Installed → Bool
+ids_are_apart extensions = are_apart (λ (extension : Installed). extension.id) extensions
+
+-- no two hosts have one name
+abbrev pub names_are_apart : List Host → Bool
+names_are_apart hosts = are_apart (λ (host : Host). host.name) hosts
 
 -- the extension has this id
 abbrev pub has_id : List ℕ → Installed → Bool

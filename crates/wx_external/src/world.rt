@@ -23,11 +23,14 @@ pub struct World {
 }
 
 impl Model for World {
-    ghost use Rattle.wx_external.specs.World.{WorldLists};
+    ghost use Rattle.std.specs.Prelude.{IsTrue};
+    ghost use Rattle.wx_external.specs.World.{WorldLists, ids_are_apart, names_are_apart};
 
     ghost Value = { WorldLists };
 
     ghost view = { λ w. record { extensions = w.extensions.items; hosts = w.hosts.items } };
+
+    ghost invariant = { λ w. IsTrue (ids_are_apart w.extensions.items) × IsTrue (names_are_apart w.hosts.items) };
 }
 
 /// Why an extension or a host was not added.
@@ -67,14 +70,16 @@ impl World {
 
     /// The extensions, in the order of adding.
     pub fn extensions(&self) -> &[Installed]
-        ensures { result.now ≡ self.now.extensions }
+        ensures value { result.now ≡ self.now.extensions }
+        ensures apart { IsTrue (spec.ids_are_apart self.now.extensions) }
     {
         &self.extensions
     }
 
     /// The hosts, in the order of adding.
     pub fn hosts(&self) -> &[HostManifest]
-        ensures { result.now ≡ self.now.hosts }
+        ensures value { result.now ≡ self.now.hosts }
+        ensures apart { IsTrue (spec.names_are_apart self.now.hosts) }
     {
         &self.hosts
     }
@@ -118,13 +123,14 @@ impl World {
     }
 
     /// Adds an extension with its manifest. After a refusal the world is as before, and the manifest comes back.
+    #[tactic(auto, using(crate::proofs::WorldLemmas::one_more_id))]
     pub fn add_extension(
         &mut self,
         id: ExtensionId,
         manifest: Extension,
     ) -> Result<(), (AddFault, Extension)>
         ensures ok { OnOk result (self.new ≡ record self.old {
-            extensions = self.old.extensions ++ record { id = id; manifest = manifest } ∷ [];
+          extensions = self.old.extensions ++ record { id = id; manifest = manifest } ∷ [];
         }) }
         ensures repeated { IsErrAnd result (λ back. back.0 ≡ AddFault.Repeated)
             ↔ IsTrue (spec.holds_id self.old id) }
@@ -141,6 +147,7 @@ impl World {
     }
 
     /// Adds a host. After a refusal the world is as before, and the host comes back.
+    #[tactic(auto, using(crate::proofs::WorldLemmas::one_more_name))]
     pub fn add_host(&mut self, host: HostManifest) -> Result<(), (AddFault, HostManifest)>
         ensures ok { OnOk result (self.new ≡ record self.old { hosts = self.old.hosts ++ host ∷ [] }) }
         ensures repeated { IsErrAnd result (λ back. back.0 ≡ AddFault.Repeated)

@@ -1,4 +1,3 @@
-use Rattle.std.proofs.Common.{ap}
 use Rattle.wx_context.proofs.WebUrlLemmas.{parse_url-own_text, is_web_url-own_text}
 use Rattle.wx_context.proofs.urls.WebUrl.url.Goals as goal
 
