@@ -1,0 +1,2 @@
+pub mod WebUrlLemmas
+pub mod Vectors

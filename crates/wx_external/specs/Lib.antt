@@ -1,0 +1,4 @@
+pub mod Gate
+pub mod Matching
+pub mod World
+pub mod Worked

@@ -1,0 +1,220 @@
+use crate::{AddFault, Installed, NativeVerdict, Rule, Verdict, World, gate, native_gate};
+use std::alloc::Global;
+use std::test::Fail;
+use wx_context::{Context, PagePath, Target, WebUrl};
+use wx_host_manifest::HostManifest;
+use wx_id::{ExtensionId, FrameId, TabId};
+use wx_manifest::Extension;
+
+const A: &[u8] = b"aaaaaaaaaaaaaaaaaaaaaaaaaaaaaaaa";
+
+const B: &[u8] = b"bbbbbbbbbbbbbbbbbbbbbbbbbbbbbbbb";
+
+const EXTERNAL: Verdict = Verdict::Open { external: true };
+
+const INTERNAL: Verdict = Verdict::Open { external: false };
+
+const NO_ID: Verdict = Verdict::Forbidden(Rule::Id);
+
+const NO_URL: Verdict = Verdict::Forbidden(Rule::Url);
+
+fn page(alloc: Global, ext: &[u8]) -> Result<Context, Fail> {
+    Ok(Context::Page {
+        ext: ExtensionId::read(ext)?,
+        path: PagePath::read(alloc, "/p")?,
+    })
+}
+
+fn script(alloc: Global, ext: &[u8]) -> Result<Context, Fail> {
+    Ok(Context::Content {
+        ext: ExtensionId::read(ext)?,
+        tab: TabId(7),
+        frame: FrameId(0),
+        url: WebUrl::read(alloc, "https://a.b/")?,
+    })
+}
+
+fn web(alloc: Global, url: &str) -> Result<Context, Fail> {
+    Ok(Context::Web {
+        tab: TabId(7),
+        frame: FrameId(0),
+        url: WebUrl::read(alloc, url)?,
+    })
+}
+
+/// The world that holds extension A alone, with this manifest.
+fn world_with(alloc: Global, manifest: &str) -> Result<World, Fail> {
+    let mut world = World::new(alloc);
+    let manifest = Extension::read(alloc, manifest.as_bytes())?;
+    match world.add_extension(ExtensionId::read(A)?, manifest) {
+        Ok(()) => Ok(world),
+        Err((fault, _)) => Err(fault.into()),
+    }
+}
+
+#[test]
+fn verdicts_on_calls_to_an_extension(rt: HostRuntime) -> Result<(), Fail> {
+    let alloc = rt.alloc();
+    let table = [
+        (
+            r#"{"manifest_version":3,"name":"x","version":"1"}"#,
+            [EXTERNAL, INTERNAL, NO_URL, NO_URL],
+        ),
+        (
+            r#"{"manifest_version":3,"name":"x","version":"1","externally_connectable":{}}"#,
+            [NO_ID, INTERNAL, NO_URL, NO_URL],
+        ),
+        (
+            r#"{"manifest_version":3,"name":"x","version":"1","externally_connectable":{"ids":["*"]}}"#,
+            [EXTERNAL, INTERNAL, NO_URL, NO_URL],
+        ),
+        (
+            r#"{"manifest_version":3,"name":"x","version":"1","externally_connectable":{"matches":["*://*.a.b/*"]}}"#,
+            [NO_ID, INTERNAL, EXTERNAL, NO_URL],
+        ),
+    ];
+    let target = Target::Other(ExtensionId::read(A)?);
+    for (manifest, verdicts) in table {
+        let world = world_with(alloc, manifest)?;
+        let callers = [
+            page(alloc, B)?,
+            page(alloc, A)?,
+            web(alloc, "https://a.b/x")?,
+            web(alloc, "https://c.d/x")?,
+        ];
+        for (caller, verdict) in callers.iter().zip(verdicts) {
+            assert_eq!(rt; gate(&world, caller, &target), verdict);
+        }
+    }
+    Ok(())
+}
+
+#[test]
+fn verdicts_of_each_sort_of_caller(rt: HostRuntime) -> Result<(), Fail> {
+    let alloc = rt.alloc();
+    let world = World::new(alloc);
+    let targets = [
+        Target::Own,
+        Target::Other(ExtensionId::read(A)?),
+        Target::Other(ExtensionId::read(B)?),
+        Target::Tab(TabId(7), None),
+        Target::Tab(TabId(7), Some(FrameId(0))),
+    ];
+    let bad = Verdict::BadTarget;
+    let table = [
+        (
+            page(alloc, A)?,
+            [INTERNAL, INTERNAL, EXTERNAL, INTERNAL, INTERNAL],
+        ),
+        (script(alloc, A)?, [INTERNAL, INTERNAL, bad, bad, bad]),
+        (
+            web(alloc, "https://a.b/x")?,
+            [bad, NO_URL, NO_URL, bad, bad],
+        ),
+    ];
+    for (caller, verdicts) in table {
+        for (target, verdict) in targets.iter().zip(verdicts) {
+            assert_eq!(rt; gate(&world, &caller, target), verdict);
+        }
+    }
+    Ok(())
+}
+
+fn host(alloc: Global, file_name: &str, manifest: &[u8]) -> Result<HostManifest, Fail> {
+    Ok(HostManifest::read(alloc, file_name, manifest)?)
+}
+
+fn host_e(alloc: Global) -> Result<HostManifest, Fail> {
+    host(
+        alloc,
+        "e.json",
+        br#"{"name":"e","description":"d","path":"/e","type":"stdio","allowed_origins":["chrome-extension://aaaaaaaaaaaaaaaaaaaaaaaaaaaaaaaa/"]}"#,
+    )
+}
+
+fn host_f(alloc: Global) -> Result<HostManifest, Fail> {
+    host(
+        alloc,
+        "f.json",
+        br#"{"name":"f","description":"d","path":"/f","type":"stdio","allowed_origins":[]}"#,
+    )
+}
+
+#[test]
+fn native_verdicts(rt: HostRuntime) -> Result<(), Fail> {
+    let alloc = rt.alloc();
+    let mut world = world_with(
+        alloc,
+        r#"{"manifest_version":3,"name":"x","version":"1","permissions":["nativeMessaging"]}"#,
+    )?;
+    assert!(rt; world.add_host(host_f(alloc)?).is_ok());
+    assert!(rt; world.add_host(host_e(alloc)?).is_ok());
+    let table = [
+        (script(alloc, A)?, "E", NativeVerdict::BadTarget),
+        (web(alloc, "https://a.b/")?, "E", NativeVerdict::BadTarget),
+        (page(alloc, B)?, "E", NativeVerdict::NoPermission),
+        (page(alloc, A)?, "E", NativeVerdict::BadHostName),
+        (page(alloc, A)?, "g", NativeVerdict::HostNotFound),
+        (page(alloc, A)?, "f", NativeVerdict::HostForbidden),
+        (page(alloc, A)?, "e", NativeVerdict::Open(1)),
+    ];
+    for (caller, name, verdict) in table {
+        assert_eq!(rt; native_gate(&world, &caller, name), verdict);
+    }
+    assert_eq!(rt; world.host(1).map(|host| host.path()), Some("/e"));
+    assert!(rt; world.host(2).is_none());
+    Ok(())
+}
+
+#[test]
+fn a_second_host_of_one_name(rt: HostRuntime) -> Result<(), Fail> {
+    let alloc = rt.alloc();
+    let mut world = World::new(alloc);
+    assert!(rt; world.add_host(host_e(alloc)?).is_ok());
+    assert!(rt; world.add_host(host_f(alloc)?).is_ok());
+    match world.add_host(host_e(alloc)?) {
+        Ok(()) => assert!(rt; false),
+        Err((fault, back)) => {
+            assert_eq!(rt; fault, AddFault::Repeated);
+            assert_eq!(rt; back.name().text(), "e");
+        }
+    }
+    assert_eq!(rt; world.hosts().len(), 2);
+    assert_eq!(rt; world.host_place("f"), Some(1));
+    assert_eq!(rt; world.host_place("g"), None);
+    Ok(())
+}
+
+#[test]
+fn a_second_extension_of_one_id(rt: HostRuntime) -> Result<(), Fail> {
+    let alloc = rt.alloc();
+    let id = ExtensionId::read(A)?;
+    let first = r#"{"manifest_version":3,"name":"first","version":"1"}"#;
+    let second = r#"{"manifest_version":3,"name":"second","version":"1"}"#;
+    let mut world = world_with(alloc, first)?;
+    match world.add_extension(id, Extension::read(alloc, second.as_bytes())?) {
+        Ok(()) => assert!(rt; false),
+        Err((fault, back)) => {
+            assert_eq!(rt; fault, AddFault::Repeated);
+            assert_eq!(rt; back.name(), "second");
+        }
+    }
+    assert_eq!(rt; world.extensions().len(), 1);
+    assert_eq!(rt;
+        world.extension(&id).map(|found| found.name()),
+        Some("first")
+    );
+    assert!(rt; world.extension(&ExtensionId::read(B)?).is_none());
+    Ok(())
+}
+
+fn crosses_threads<T: Send + Sync>() {}
+
+#[test]
+fn types_cross_threads(_rt: HostRuntime) {
+    crosses_threads::<World>();
+    crosses_threads::<Installed>();
+    crosses_threads::<AddFault>();
+    crosses_threads::<Verdict>();
+    crosses_threads::<NativeVerdict>();
+}
