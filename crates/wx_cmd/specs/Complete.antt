@@ -3,12 +3,13 @@ use Rattle.std.specs.Prelude.{◌≡◌, ◌⊎◌, ℕ, List, Some, Ok}
 use Rattle.wx_outside.specs.Causes.{Rose}
 use Rattle.wx_outside.specs.Shelf.{Files, content_at}
 use Rattle.wx_script.specs.SceneValue.{SceneValue}
-use Rattle.wx_cmd.specs.declared.status.Status.{Status}
-use Rattle.wx_cmd.specs.declared.status.Status.TheVariants.{Done, NoMemory}
-use Rattle.wx_cmd.specs.Words.{scene_named}
-use Rattle.wx_cmd.specs.Scenes.{scene_in}
-use Rattle.wx_cmd.specs.Told.{SinkChange, HasFailed}
-use Rattle.wx_cmd.specs.Headline.{ShelfChange}
+use Rattle.wx_status.specs.declared.status.Status.{Status}
+use Rattle.wx_status.specs.declared.status.Status.TheVariants.{NoMemory}
+use Rattle.wx_words.specs.Words.{scene_named}
+use Rattle.wx_run.specs.declared.outcome.RunEnd.{RunEnd}
+use Rattle.wx_cmd.specs.Scenes.{scene_in, IsToldOfRun}
+use Rattle.wx_cmd.specs.Endings.{answer_by}
+use Rattle.wx_status.specs.Changes.{ShelfChange, SinkChange, HasFailed}
 
 -- The words name a file, the shelf tells that a scene stands there, and nothing failed in the call.
 pub record NothingIsWrong (words : List (List ℕ)) (shelf : ShelfChange) (out err : SinkChange) : Type 0 where
@@ -22,6 +23,14 @@ pub record NothingIsWrong (words : List (List ℕ)) (shelf : ShelfChange) (out e
   pub out_sound : HasFailed out → ⊥
   pub err_sound : HasFailed err → ⊥
 
--- Then the answer is Done, unless memory was refused.
+-- The answer is that of a run of the scene.
+pub record AnswersRun (scene : SceneValue) (result : Status) : Type 0 where
+  pub end : RunEnd
+  pub text : List ℕ
+  pub lines : List ℕ
+  pub run : IsToldOfRun scene end text lines
+  pub answered : result ≡ answer_by end
+
+-- Then the answer is that of a run of the scene, unless memory was refused.
 abbrev pub IsComplete : List (List ℕ) → ShelfChange → SinkChange → SinkChange → Status → Type 0
-IsComplete words shelf out err result = NothingIsWrong words shelf out err → (result ≡ Done) ⊎ (result ≡ NoMemory)
+IsComplete words shelf out err result = (sound : NothingIsWrong words shelf out err) → AnswersRun sound.scene result ⊎ (result ≡ NoMemory)

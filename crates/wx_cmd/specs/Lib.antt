@@ -1,10 +1,8 @@
-pub mod Words
-pub mod Status
-pub mod Lines
 pub mod Verdict
 pub mod View
 pub mod Told
 pub mod Scenes
+pub mod Endings
 pub mod Headline
 pub mod Judging
 pub mod Complete

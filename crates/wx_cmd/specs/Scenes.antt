@@ -1,41 +1,35 @@
 -- The scene that stands under a name, or why it is refused; and the text that a run of it leaves.
-use Rattle.std.specs.Prelude.{◌≡◌, ℕ, List, Result, Ok, Err}
+use Rattle.std.specs.Prelude.{◌≡◌, ℕ, List, Result, Ok, Err, reverse}
 use Rattle.wx_outside.specs.Shelf.{Content, present, absent, too_large}
 use Rattle.wx_machine.specs.declared.world.World.{World}
 use Rattle.wx_machine.specs.declared.entries.Entry.{Entry}
 use Rattle.wx_journal.specs.Text.{journal_text}
 use Rattle.wx_script.specs.declared.scene.SceneFault.{SceneFault}
 use Rattle.wx_script.specs.declared.scene.SceneKind.{SceneKind}
-use Rattle.wx_script.specs.declared.scene.SceneKind.TheVariants.{Missing, Large, Form}
+use Rattle.wx_script.specs.declared.scene.SceneKind.TheVariants.{Missing, Large}
 use Rattle.wx_script.specs.SceneValue.{SceneValue}
 use Rattle.wx_script.specs.Scene.{scene_of}
+use Rattle.wx_run.specs.declared.outcome.RunEnd.{RunEnd}
 use Rattle.wx_run.specs.Run.{IsRunOf}
+use Rattle.wx_cmd.specs.Endings.{lines_of_end}
 
 -- a fault that is in no line
 abbrev pub refusal : SceneKind → SceneFault
 refusal kind = record { line = 0; kind = kind }
 
--- what is told of a faulty line: for now, that there is one
-abbrev pub refusal_of : SceneFault → SceneFault
-refusal_of fault = refusal Form
-
--- what was read, with the fault as it is told
-abbrev pub scene_or_refusal : Result SceneValue SceneFault → Result SceneValue SceneFault
-scene_or_refusal (Ok scene) = Ok scene
-scene_or_refusal (Err fault) = Err (refusal_of fault)
-
 -- the scene that stands there, or why it is refused
 abbrev pub scene_in : Content → Result SceneValue SceneFault
 scene_in absent = Err (refusal Missing)
 scene_in too_large = Err (refusal Large)
-scene_in (present bytes) = scene_or_refusal (scene_of bytes)
+scene_in (present bytes) = scene_of bytes
 
 -- the world in which no extension has a manifest, and no native host is known
 abbrev pub empty_world : World
 empty_world = record {}
 
--- The bytes are the text of a journal that a run of the scene leaves.
-pub record IsTextOfRun (scene : SceneValue) (bytes : List ℕ) : Type 0 where
+-- A run of the scene leaves a journal and comes to this end; the text is the journal's, and the lines tell of the end.
+pub record IsToldOfRun (scene : SceneValue) (end : RunEnd) (text lines : List ℕ) : Type 0 where
   pub journal : List Entry
-  pub run : IsRunOf empty_world scene journal
-  pub text : bytes ≡ journal_text journal
+  pub run : IsRunOf empty_world scene journal end
+  pub text_of_run : text ≡ journal_text journal
+  pub lines_of_run : lines ≡ lines_of_end scene (reverse journal) end

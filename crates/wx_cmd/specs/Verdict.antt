@@ -1,15 +1,14 @@
--- What a call answers before it writes.
+-- What a call for a run answers before it writes.
 use Rattle.std.specs.Prelude.{ℕ, List}
 use Rattle.wx_script.specs.declared.scene.SceneFault.{SceneFault}
+use Rattle.wx_run.specs.declared.outcome.RunEnd.{RunEnd}
 
 pub data Verdict : Type 0 where
-  -- the words have none of the forms
-  usage : Verdict
   -- the file of this name could not be read
   read_fault : List ℕ → Verdict
   -- the scene is refused for this
   refused : SceneFault → Verdict
   -- memory was refused
   no_memory : Verdict
-  -- the scene was run, and these bytes are the text of its journal
-  ran : List ℕ → Verdict
+  -- the scene was run to this end, these bytes are the text of its journal, and these the lines that tell of its end
+  ran : RunEnd → List ℕ → List ℕ → Verdict

@@ -1,8 +1,9 @@
-use crate::{Status, wx};
+use crate::wx;
 use std::alloc::{AllocError, Global};
 use std::test::Fail;
 use wx_outside::{MemoryFile, MemoryShelf, MemorySink};
 use wx_script::SceneKind;
+use wx_status::Status;
 
 /// Room for every text of these tests.
 const AMPLE: usize = 1000000;
@@ -470,19 +471,4 @@ fn faults(rt: HostRuntime) -> Result<(), Fail> {
         assert_eq!(rt; str::from_utf8(&err.bytes), Ok(on_err));
     }
     Ok(())
-}
-
-#[test]
-fn numbers(rt: HostRuntime) {
-    let cases = [
-        (Status::Done, 0),
-        (Status::Usage, 2),
-        (Status::ReadFault, 3),
-        (FORM, 4),
-        (Status::WriteFault, 6),
-        (Status::NoMemory, 7),
-    ];
-    for (status, number) in cases {
-        assert_eq!(rt; status.number(), number);
-    }
 }

@@ -10,7 +10,7 @@ use Rattle.wx_script.specs.Carries.{CarriesOut}
 use Rattle.wx_script.specs.Ends.{IsDone, IsStalled, spent_of, entries_by, entry_limit}
 use Rattle.wx_run.specs.declared.outcome.RunEnd.{RunEnd}
 use Rattle.wx_run.specs.declared.outcome.RunEnd.TheVariants.{Done, Stalled, Spent}
-use Rattle.wx_run.specs.declared.outcome.SpentWho.TheVariants.{Endpoint}
+use Rattle.wx_script.specs.declared.scene.SpentWho.TheVariants.{Endpoint}
 use Rattle.wx_run.specs.Opening.{opening}
 use Rattle.wx_run.specs.Rounds.{Rounds}
 

@@ -1,14 +1,9 @@
 //! Runs of a scene in rounds, over the broker.
 #![tactic(auto)]
 
-mod cursor;
-mod opening;
-mod rounds;
+mod outcome;
 mod run;
-#[cfg(test)]
-mod tests;
 
-pub use cursor::{Cursor, Turned, turn};
-pub use opening::open;
-pub use rounds::{round, run_rounds};
+pub use outcome::{Outcome, RunEnd};
 pub use run::run_scene;
+pub use wx_script::SpentWho;

@@ -13,5 +13,5 @@ mod script;
 mod tests;
 mod word;
 
-pub use scene::{Scene, SceneEndpoint, SceneExtension, SceneFault, SceneKind, SceneReadFault};
+pub use scene::{Scene, SceneEndpoint, SceneExtension, SceneFault, SceneKind, SceneReadFault, SpentWho};
 pub use script::{Act, Command, Script, Var};

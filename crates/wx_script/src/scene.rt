@@ -60,6 +60,13 @@ pub struct SceneFault {
     pub kind: SceneKind,
 }
 
+/// Who has made as many entries as a run allows, and has not ended.
+#[derive(Clone, Copy, Debug, PartialEq, Eq)]
+pub enum SpentWho {
+    /// The endpoint at this place of the scene, from 0.
+    Endpoint(u64),
+}
+
 /// Why bytes are not read as a scene.
 #[derive(Clone, Copy, Debug, PartialEq, Eq)]
 pub enum SceneReadFault {

@@ -9,4 +9,4 @@ mod tests;
 
 pub use lines::{input_line, read_fault_line, refusal_line};
 pub use status::{InputKind, Status};
-pub use tell::{tell_line, tell_no_memory, tell_text};
+pub use tell::{tell_line, tell_no_memory, tell_run, tell_text};

@@ -2,7 +2,7 @@ ghost use Rattle.std.specs.Prelude.{◌≡◌};
 ghost use Rattle.wx_status.specs.Status.{status_number};
 
 use wx_match_pattern::PatternFault;
-use wx_script::SceneKind;
+use wx_script::{SceneKind, SpentWho};
 
 /// Why the input of a command is refused.
 #[derive(Clone, Copy, Debug, PartialEq, Eq)]
@@ -22,6 +22,8 @@ pub enum InputKind {
 pub enum Status {
     /// Every script ended, and the journal's text was written whole; of another command, yes.
     Done,
+    /// Some script has not ended, each such script waits with nothing pending, and the journal's text was written whole.
+    Stalled,
     /// A command's answer is no, and was written whole.
     No,
     /// The words have none of the forms.
@@ -36,6 +38,8 @@ pub enum Status {
     WriteFault,
     /// Memory was refused.
     NoMemory,
+    /// An endpoint has made 65,536 entries and has not ended, and the journal's text was written whole.
+    Spent(SpentWho),
 }
 
 impl Status {
@@ -45,6 +49,7 @@ impl Status {
     {
         match self {
             Status::Done => 0,
+            Status::Stalled => 1,
             Status::No => 1,
             Status::Usage => 2,
             Status::ReadFault => 3,
@@ -52,6 +57,7 @@ impl Status {
             Status::InputRefused(_) => 4,
             Status::WriteFault => 6,
             Status::NoMemory => 7,
+            Status::Spent(_) => 8,
         }
     }
 }

@@ -2,7 +2,7 @@ ghost use Rattle.std.specs.Prelude.{◌≡◌};
 ghost use Rattle.wx_status.specs.declared.status.Status.TheVariants as status;
 ghost use Rattle.wx_status.specs.Changes.{WasTried};
 ghost use Rattle.wx_status.specs.Lines.{write_fault_line};
-ghost use Rattle.wx_status.specs.Told.{ToldText, ToldNoMemory, LineTold};
+ghost use Rattle.wx_status.specs.Told.{ToldText, ToldRun, ToldNoMemory, LineTold, LinesTold};
 
 use crate::status::Status;
 use wx_outside::{Failed, Sink};
@@ -49,6 +49,35 @@ pub fn tell_text<O: Sink, E: Sink>(answer: Status, text: &[u8], out: &mut O, err
     }
     match out.write(text) {
         Ok(()) => answer,
+        Err(Failed) => tell_write_fault(err),
+    }
+}
+
+/// Writes the lines of an answer. Where there are none, nothing is written.
+fn tell_lines<E: Sink>(answer: Status, lines: &[u8], err: &mut E) -> Status
+    ensures { LinesTold answer lines.now (record { before = E.written err.old; after = E.written err.new; faults_before = E.faults err.old; faults_after = E.faults err.new }) result }
+{
+    if lines.is_empty() {
+        answer
+    } else {
+        tell_line(answer, lines, err)
+    }
+}
+
+/// Writes the text of a run, and behind it the lines of its answer.
+pub fn tell_run<O: Sink, E: Sink>(
+    answer: Status,
+    text: &[u8],
+    lines: &[u8],
+    out: &mut O,
+    err: &mut E,
+) -> Status
+    ensures { ToldRun answer text.now lines.now
+        (record { before = O.written out.old; after = O.written out.new; faults_before = O.faults out.old; faults_after = O.faults out.new })
+        (record { before = E.written err.old; after = E.written err.new; faults_before = E.faults err.old; faults_after = E.faults err.new }) result }
+{
+    match out.write(text) {
+        Ok(()) => tell_lines(answer, lines, err),
         Err(Failed) => tell_write_fault(err),
     }
 }
