@@ -15,6 +15,5 @@ pub fn turn<D: Desk>(cursor: &mut Cursor<'_>, desk: &mut D) -> Turned
     ensures sound { IsSound (D.state desk.new) }
     ensures same_script { cursor.new.script ≡ cursor.old.script }
 {
-    let _ = (cursor, desk);
     Turned::NoMemory
 }
