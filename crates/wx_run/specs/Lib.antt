@@ -1,8 +1,7 @@
 pub mod Opening
 pub mod Rounds
 pub mod Run
-pub mod Turn
-pub mod Asked
-pub mod Places
+pub mod Cursors
+pub mod Step
 pub mod Round
 pub mod Opened

@@ -8,8 +8,9 @@ use Rattle.wx_machine.specs.declared.entries.Who.TheVariants.{Context as ByConte
 use Rattle.wx_machine.specs.declared.entries.Call.TheVariants as call
 use Rattle.wx_machine.specs.declared.entries.Answer.TheVariants as answer
 use Rattle.wx_machine.specs.declared.entries.Entry.{Entry}
-use Rattle.wx_script.specs.declared.script.Act.{Act}
 use Rattle.wx_script.specs.declared.script.Act.TheVariants as act
+use Rattle.wx_script.specs.declared.script.Command.{Command}
+use Rattle.wx_script.specs.declared.script.Command.TheVariants.{Plain}
 use Rattle.wx_script.specs.declared.scene.SceneEndpoint.{SceneEndpoint}
 use Rattle.wx_script.specs.SceneValue.{SceneValue}
 
@@ -21,14 +22,15 @@ entered c x = record { who = ByContext c; call = call.Enter x; answer = answer.E
 abbrev pub listened : ContextNo → Listens → Entry
 listened c l = record { who = ByContext c; call = call.Listen l; answer = answer.Done }
 
--- the first command, where it is a `listen`
-abbrev pub first_listen : List Act → Option Listens
+-- what a command listens to, where it is a plain `listen`
+abbrev pub plain_listen : Command → Option Listens
+plain_listen (Plain (act.Listen l)) = Some l
+plain_listen _ = None
+
+-- what the first command listens to, where it is a plain `listen`
+abbrev pub first_listen : List Command → Option Listens
 first_listen [] = None
-first_listen (act.Listen l ∷ acts) = Some l
-first_listen (act.Connect v target name ∷ acts) = None
-first_listen (act.Post v text ∷ acts) = None
-first_listen (act.Disconnect v ∷ acts) = None
-first_listen (act.Take ∷ acts) = None
+first_listen (c ∷ commands) = plain_listen c
 
 -- an endpoint's `enter`, and its `listen` where that is its first command
 abbrev pub first_entries : ContextNo → SceneEndpoint → List Entry

@@ -1,14 +1,13 @@
 //! Runs of a scene in rounds, over the broker.
 #![tactic(auto)]
 
-mod cursor;
 mod opening;
+mod outcome;
 mod rounds;
 mod run;
-#[cfg(test)]
-mod tests;
+mod step;
 
-pub use cursor::{Cursor, Turned, turn};
 pub use opening::open;
-pub use rounds::{round, run_rounds};
+pub use outcome::{Outcome, RunEnd, SpentWho};
+pub use rounds::{Rounded, first_spent, round, run_rounds};
 pub use run::run_scene;

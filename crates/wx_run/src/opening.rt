@@ -1,24 +1,27 @@
 ghost use Rattle.std.specs.Prelude.{◌≡◌, [], IfOk, OnOk, length, reverse, is_some};
+ghost use Rattle.wx_machine.specs.Answers.{IsLegal};
+ghost use Rattle.wx_machine.specs.Contexts.{contexts};
 ghost use Rattle.wx_run.specs.Opening.{first_listen};
-ghost use Rattle.wx_run.specs.Opened.{IsOpened, OpenedSoFar};
+ghost use Rattle.wx_run.specs.Opened.{AreBelow, IsOpened, OpenedSoFar};
 ghost use Rattle.wx_broker.specs.Steps.{Appends};
 ghost use Rattle.wx_machine.specs.declared.entries.Who.TheVariants as Who;
 ghost use Rattle.wx_machine.specs.declared.entries.Call.TheVariants as Call;
 ghost use Rattle.wx_machine.specs.declared.entries.Answer.TheVariants as Answer;
 
-use crate::cursor::{Cursor, turn};
+use crate::step::make_turn;
 use std::alloc::Global;
 use wx_broker::Broker;
+use wx_endpoint::{BrokerDesk, Cursor};
 use wx_id::{ContextNo, NoMemory};
 use wx_machine::Context;
-use wx_script::{Act, Scene, SceneEndpoint};
+use wx_script::{Act, Command, Scene, SceneEndpoint};
 
-/// Whether the first command is a `listen`.
-fn begins_with_listen(acts: &[Act]) -> bool
-    ensures { result ≡ is_some (first_listen acts.now) }
+/// Whether the first command is a plain `listen`.
+fn begins_with_listen(commands: &[Command]) -> bool
+    ensures { result ≡ is_some (first_listen commands.now) }
 {
-    match acts.first() {
-        Some(Act::Listen(_)) => true,
+    match commands.first() {
+        Some(Command::Plain(Act::Listen(_))) => true,
         _ => false,
     }
 }
@@ -37,17 +40,18 @@ fn enter(broker: &mut Broker, context: &Context) -> Result<ContextNo, NoMemory>
 fn open_one<'a>(
     alloc: Global,
     endpoint: &'a SceneEndpoint,
-    broker: &mut Broker,
+    desk: &mut BrokerDesk,
 ) -> Result<Cursor<'a>, NoMemory>
-    ensures opened { IfOk result (λ cursor. IsOpened broker.old.world endpoint.now cursor (reverse broker.old.entries) (reverse broker.new.entries)) }
-    ensures same_world { OnOk result (broker.new.world ≡ broker.old.world) }
+    requires legal { IsLegal desk.old.broker.world desk.old.broker.entries }
+    requires all_in { AreBelow (contexts (reverse desk.old.broker.entries)) (reverse desk.old.broker.entries) }
+    ensures opened { IfOk result (λ cursor. IsOpened desk.old.broker.world endpoint.now cursor (reverse desk.old.broker.entries) (reverse desk.new.broker.entries)) }
+    ensures same_world { OnOk result (desk.new.broker.world ≡ desk.old.broker.world) }
 {
-    let c = enter(broker, &endpoint.context)?;
-    let mut cursor = Cursor::new(alloc, endpoint.script.acts())?;
-    if !begins_with_listen(endpoint.script.acts()) {
-        return Ok(cursor);
+    desk.context = enter(&mut desk.broker, &endpoint.context)?;
+    let mut cursor = Cursor::new(alloc, &endpoint.script)?;
+    if begins_with_listen(endpoint.script.commands()) {
+        make_turn(&mut cursor, desk)?;
     }
-    turn(&mut cursor, c, broker)?;
     Ok(cursor)
 }
 
@@ -55,15 +59,15 @@ fn open_one<'a>(
 pub fn open<'a>(
     alloc: Global,
     scene: &'a Scene,
-    broker: &mut Broker,
+    desk: &mut BrokerDesk,
 ) -> Result<Vec<Cursor<'a>>, NoMemory>
-    requires { broker.old.entries ≡ [] }
-    ensures opened { IfOk result (λ cursors. OpenedSoFar scene.now.endpoints (length scene.now.endpoints) cursors.items (reverse broker.new.entries)) }
-    ensures same_world { OnOk result (broker.new.world ≡ broker.old.world) }
+    requires { desk.old.broker.entries ≡ [] }
+    ensures opened { IfOk result (λ cursors. OpenedSoFar desk.old.broker.world scene.now.endpoints (length scene.now.endpoints) cursors.items (reverse desk.new.broker.entries)) }
+    ensures same_world { OnOk result (desk.new.broker.world ≡ desk.old.broker.world) }
 {
     let mut cursors = Vec::new(alloc);
     for endpoint in scene.endpoints() {
-        let cursor = open_one(alloc, endpoint, broker)?;
+        let cursor = open_one(alloc, endpoint, desk)?;
         if cursors.push(cursor).is_err() {
             return Err(NoMemory);
         }

@@ -1,42 +1,76 @@
-use Rattle.std.proofs.Common.{◌+◌, ◌<◌, ◌≤◌, length, arith, sym, subst, set, ◌∙◌, refl}
+use Rattle.std.proofs.Common.{◌≡◌, ◌∙◌, ◌<◌, ◌+◌, length, arith, sym, ap, subst, refl, set}
 use Rattle.std.specs.Prelude.{reverse}
-use Rattle.wx_machine.specs.Contexts.{contexts}
-use Rattle.wx_run.specs.Turn.{Lessens}
-use Rattle.wx_run.specs.Round.{RoundSoFar, work_in}
-use Rattle.wx_run.proofs.PlaceLemmas.{numbered}
-use Rattle.wx_run.proofs.RoundLemmas.{round_step, round_whole, round_begins, at_index, length_behind, less_step, contexts_kept}
+use Rattle.wx_script.specs.Ends.{numbered}
+use Rattle.wx_run.specs.Cursors.{scripts_in}
+use Rattle.wx_run.specs.Step.{IsReady, IsStep}
+use Rattle.wx_run.specs.Round.{RoundSoFar}
+use Rattle.wx_run.proofs.RoundLemmas.{At, at_index, ready_at, turn_made, turn_spends, turn_lessens, round_begins, all_turns, all_idle, length_behind}
 use Rattle.wx_run.proofs.rounds.round.Goals as goal
 
 pub loop-i-init : goal.loop-i-init
 loop-i-init c = record {
   same_length = sym c.len-i-end.ensures;
-  all_in = omega (arith, c.requires, c.len-i-end.ensures, c.args.cursors.now.ok.0);
   same_world = refl;
   less = refl;
-  so_far = λ scripts behind. round_begins scripts c.args.cursors.now.items (reverse c.args.broker.now.entries) behind;
+  so_far = round_begins c.args.desk.now.broker.world (scripts_in c.args.cursors.now.items) c.args.cursors.now.items _ c.requires.stand c.requires.unspent;
 }
+
+pub make_turn-requires : goal.make_turn-requires
+make_turn-requires c =
+    let so = c.loop-i.invariant.so_far in
+    let p = c.index_mut-cursor.result.now in
+    let below : c.loop-i.i < length c.loop-i.cursors.items = omega (arith, c.loop-i.cursors.ok.0, c.loop-i.invariant.same_length, c.loop-i-test.true) in
+    let at = at_index (scripts_in c.args.cursors.now.items) c.loop-i.cursors.items c.loop-i.i p p _ so.stand.behind below c.index_mut-cursor.ensures.value in
+    subst (λ w. IsReady w (numbered c.loop-i.i) p (reverse c.loop-i.desk.broker.entries)) (sym c.loop-i.invariant.same_world)
+    (ready_at c.args.desk.now.broker.world (scripts_in c.args.cursors.now.items) c.loop-i.i c.loop-i.cursors.items _ p p _ so.stand so.unspent at)
+
+pub returns-then-is_spent-clause-stand : goal.returns-then-is_spent-clause-stand
+returns-then-is_spent-clause-stand c =
+    let so = c.loop-i.invariant.so_far in
+    let p = c.index_mut-cursor.result.now in
+    let q = c.make_turn.new.cursor in
+    let below : c.loop-i.i < length c.loop-i.cursors.items = omega (arith, c.loop-i.cursors.ok.0, c.loop-i.invariant.same_length, c.loop-i-test.true) in
+    let at = at_index (scripts_in c.args.cursors.now.items) c.loop-i.cursors.items c.loop-i.i p q _ so.stand.behind below c.index_mut-cursor.ensures.value in
+    let step : IsStep c.args.desk.now.broker.world (numbered c.loop-i.i) p q (reverse c.loop-i.desk.broker.entries) (reverse c.make_turn.new.desk.broker.entries) c.in_ok-moved.field-0 =
+    subst (λ w. IsStep w (numbered c.loop-i.i) p q (reverse c.loop-i.desk.broker.entries) (reverse c.make_turn.new.desk.broker.entries) c.in_ok-moved.field-0) c.loop-i.invariant.same_world c.in_ok-moved.ensures.step in
+    (turn_spends c.args.desk.now.broker.world (scripts_in c.args.cursors.now.items) c.loop-i.i c.loop-i.cursors.items _ p q _ _ _ c.loop-i.moved c.in_ok-moved.field-0 so at step (sym c.if-is_spent.ensures)).0
+
+pub returns-then-is_spent-clause-round : goal.returns-then-is_spent-clause-round
+returns-then-is_spent-clause-round c =
+    let so = c.loop-i.invariant.so_far in
+    let p = c.index_mut-cursor.result.now in
+    let q = c.make_turn.new.cursor in
+    let below : c.loop-i.i < length c.loop-i.cursors.items = omega (arith, c.loop-i.cursors.ok.0, c.loop-i.invariant.same_length, c.loop-i-test.true) in
+    let at = at_index (scripts_in c.args.cursors.now.items) c.loop-i.cursors.items c.loop-i.i p q _ so.stand.behind below c.index_mut-cursor.ensures.value in
+    let step : IsStep c.args.desk.now.broker.world (numbered c.loop-i.i) p q (reverse c.loop-i.desk.broker.entries) (reverse c.make_turn.new.desk.broker.entries) c.in_ok-moved.field-0 =
+    subst (λ w. IsStep w (numbered c.loop-i.i) p q (reverse c.loop-i.desk.broker.entries) (reverse c.make_turn.new.desk.broker.entries) c.in_ok-moved.field-0) c.loop-i.invariant.same_world c.in_ok-moved.ensures.step in
+    (turn_spends c.args.desk.now.broker.world (scripts_in c.args.cursors.now.items) c.loop-i.i c.loop-i.cursors.items _ p q _ _ _ c.loop-i.moved c.in_ok-moved.field-0 so at step (sym c.if-is_spent.ensures)).1
 
 pub loop-i-preserved : goal.loop-i-preserved
 loop-i-preserved c =
-    let inv = c.loop-i.invariant in
-    let below : c.loop-i.i < length c.loop-i.cursors.items = omega (arith, c.loop-i.cursors.ok.0, inv.same_length, c.loop-i-test.true) in
-    let kept : contexts (reverse c.loop-i.broker.entries) ≤ contexts (reverse c.turn.new.broker.entries) =
-    contexts_kept c.loop-i.broker.world (numbered c.loop-i.i) c.index_mut.result.now c.turn.new.cursor (reverse c.loop-i.broker.entries) (reverse c.turn.new.broker.entries) c.in_ok-turn.field-0 c.in_ok-turn.ensures.turn in
+    let so = c.loop-i.invariant.so_far in
+    let p = c.index_mut-cursor.result.now in
+    let q = c.make_turn.new.cursor in
+    let below : c.loop-i.i < length c.loop-i.cursors.items = omega (arith, c.loop-i.cursors.ok.0, c.loop-i.invariant.same_length, c.loop-i-test.true) in
+    let at = at_index (scripts_in c.args.cursors.now.items) c.loop-i.cursors.items c.loop-i.i p q _ so.stand.behind below c.index_mut-cursor.ensures.value in
+    let step : IsStep c.args.desk.now.broker.world (numbered c.loop-i.i) p q (reverse c.loop-i.desk.broker.entries) (reverse c.make_turn.new.desk.broker.entries) c.in_ok-moved.field-0 =
+    subst (λ w. IsStep w (numbered c.loop-i.i) p q (reverse c.loop-i.desk.broker.entries) (reverse c.make_turn.new.desk.broker.entries) c.in_ok-moved.field-0) c.loop-i.invariant.same_world c.in_ok-moved.ensures.step in
     record {
-      same_length = inv.same_length;
-      all_in = omega (arith, inv.all_in, kept);
-      same_world = c.in_ok-turn.ensures.same_world ∙ inv.same_world;
-      less = subst (λ t. Lessens t (work_in c.args.cursors.now.items) (work_in (set c.loop-i.cursors.items c.loop-i.i c.turn.new.cursor))) (sym c.or-turned.ensures)
-          (less_step c.loop-i.cursors.items c.loop-i.i c.index_mut.result.now c.turn.new.cursor (work_in c.args.cursors.now.items) c.loop-i.turned c.in_ok-turn.field-0 below c.index_mut.ensures.value inv.less c.in_ok-turn.ensures.less);
-      so_far = λ scripts behind.
-          let so = inv.so_far scripts behind in
-          let at = at_index scripts c.loop-i.cursors.items c.loop-i.i c.index_mut.result.now c.turn.new.cursor (reverse c.loop-i.broker.entries) so.behind below c.index_mut.ensures.value in
-          subst (λ t. RoundSoFar scripts (c.loop-i.i + 1) (set c.loop-i.cursors.items c.loop-i.i c.turn.new.cursor) (reverse c.args.broker.now.entries) (reverse c.turn.new.broker.entries) t) (sym c.or-turned.ensures)
-          (round_step c.loop-i.broker.world scripts c.loop-i.i c.loop-i.cursors.items _ c.index_mut.result.now c.turn.new.cursor _ (reverse c.loop-i.broker.entries) _ c.loop-i.turned c.in_ok-turn.field-0 so at c.in_ok-turn.ensures.turn);
+      same_length = c.loop-i.invariant.same_length;
+      same_world = c.in_ok-moved.ensures.same_world ∙ c.loop-i.invariant.same_world;
+      less = turn_lessens c.args.desk.now.broker.world (scripts_in c.args.cursors.now.items) c.loop-i.i c.loop-i.cursors.items _ p q _ _ _ c.loop-i.moved c.in_ok-moved.field-0 _ so at step c.loop-i.invariant.less;
+      so_far = turn_made c.args.desk.now.broker.world (scripts_in c.args.cursors.now.items) c.loop-i.i c.loop-i.cursors.items _ p q _ _ _ c.loop-i.moved c.in_ok-moved.field-0 so at step (sym c.if-is_spent.ensures);
     }
 
-pub returns-clause-round : goal.returns-clause-round
-returns-clause-round c scripts behind =
-    let so = c.loop-i.invariant.so_far scripts behind in
-    let len = length_behind scripts c.loop-i.cursors.items _ so.behind in
-    round_whole scripts c.loop-i.i _ _ _ c.loop-i.turned (omega (arith, c.loop-i.cursors.ok.0, c.loop-i.invariant.same_length, c.loop-i-test.false, c.loop-i.auto.i-end, len)) so
+pub returns-then-moved-clause-round : goal.returns-then-moved-clause-round
+returns-then-moved-clause-round c =
+    let so = c.loop-i.invariant.so_far in
+    let len = length_behind (scripts_in c.args.cursors.now.items) c.loop-i.cursors.items _ so.stand.behind in
+    (all_turns c.args.desk.now.broker.world (scripts_in c.args.cursors.now.items) c.loop-i.i c.loop-i.cursors.items _ _ c.loop-i.moved (omega (arith, c.loop-i.cursors.ok.0, c.loop-i.invariant.same_length, c.loop-i-test.false, c.loop-i.auto.i-end, len)) so, so.unspent)
+
+pub returns-else-moved-clause-round : goal.returns-else-moved-clause-round
+returns-else-moved-clause-round c =
+    let so = c.loop-i.invariant.so_far in
+    let len = length_behind (scripts_in c.args.cursors.now.items) c.loop-i.cursors.items _ so.stand.behind in
+    let here = subst (λ m. RoundSoFar c.args.desk.now.broker.world (scripts_in c.args.cursors.now.items) c.loop-i.i c.loop-i.cursors.items (reverse c.args.desk.now.broker.entries) (reverse c.loop-i.desk.broker.entries) m) c.if-moved.false so in
+    (all_idle c.args.desk.now.broker.world (scripts_in c.args.cursors.now.items) c.loop-i.i c.loop-i.cursors.items _ _ (omega (arith, c.loop-i.cursors.ok.0, c.loop-i.invariant.same_length, c.loop-i-test.false, c.loop-i.auto.i-end, len)) here, so.unspent)
