@@ -8,7 +8,7 @@ use Rattle.wx_machine.specs.declared.entries.Who.TheVariants.{Context as ByConte
 use Rattle.wx_machine.specs.declared.entries.Entry.{Entry}
 use Rattle.wx_machine.specs.Contexts.{is_by}
 use Rattle.wx_script.specs.declared.script.Command.{Command}
-use Rattle.wx_script.specs.Places.{Place, place_behind, place_of}
+use Rattle.wx_script.specs.Places.{place_behind, place_of}
 use Rattle.wx_script.specs.Ends.{entries_by, numbered}
 use Rattle.wx_endpoint.specs.Turn.{CursorState}
 use Rattle.wx_run.specs.Cursors.{cursor_of, cursors_from, scripts_in}

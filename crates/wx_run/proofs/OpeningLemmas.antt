@@ -1,9 +1,9 @@
 -- One more endpoint of the opening.
-use Rattle.std.proofs.Common.{◌≡◌, ◌≢◌, ℕ, ◌+◌, ◌<◌, ◌≤◌, length, take, cond, arith, Bool, true, false, List, [], ◌∷◌, ◌++◌, Some, None, refl, sym, ap, ◌∙◌, subst, append_assoc, append-nil}
+use Rattle.std.proofs.Common.{◌≡◌, ◌≢◌, ℕ, ◌+◌, ◌<◌, length, take, cond, arith, Bool, true, false, List, [], ◌∷◌, ◌++◌, Some, None, refl, sym, ap, ◌∙◌, subst, append_assoc, append-nil}
 use Rattle.std.specs.declared.option.Option.{Option}
-use Rattle.std.specs.Prelude.{slice_get, reverse, ◌&&◌, ◌||◌, not, nat_le, option_to_list}
+use Rattle.std.specs.Prelude.{slice_get, reverse, ◌&&◌, ◌||◌, not, option_to_list}
 use Rattle.std.specs.Option.{option_map, option_or}
-use Rattle.std.proofs.lemmas.Bool.{eq-eqb, eqb-true}
+use Rattle.std.proofs.lemmas.Bool.{eq-eqb}
 use Rattle.std.proofs.lemmas.List.{reverse-append, length-map}
 use Rattle.std.proofs.lemmas.Option.{slice_get-map}
 use Rattle.std.proofs.Math.Seq.{take-length}
@@ -13,7 +13,6 @@ use Rattle.wx_machine.specs.declared.contexts.Context.{Context}
 use Rattle.wx_machine.specs.declared.contexts.Listens.{Listens}
 use Rattle.wx_machine.specs.declared.entries.Who.TheVariants.{Context as ByContext}
 use Rattle.wx_machine.specs.declared.entries.Call.TheVariants as call
-use Rattle.wx_machine.specs.declared.entries.Answer.{Answer}
 use Rattle.wx_machine.specs.declared.entries.Answer.TheVariants as answer
 use Rattle.wx_machine.specs.declared.entries.Entry.{Entry}
 use Rattle.wx_machine.specs.Contexts.{contexts, is_by, is_there, is_live, has_left, context_of, same_context, is_leave}
@@ -26,21 +25,21 @@ use Rattle.wx_script.specs.declared.script.Command.{Command}
 use Rattle.wx_script.specs.declared.script.Command.TheVariants.{Plain, Repeat}
 use Rattle.wx_script.specs.declared.scene.SceneEndpoint.{SceneEndpoint}
 use Rattle.wx_script.specs.SceneValue.{SceneValue}
-use Rattle.wx_script.specs.Places.{Place, outside, place_of, place_behind, at_start, next_at, next_of, asks}
+use Rattle.wx_script.specs.Places.{outside, place_of, place_behind, at_start, next_at, next_of, asks}
 use Rattle.wx_script.specs.Carries.{MayCome}
 use Rattle.wx_script.specs.Ends.{numbered, entries_by, entry_limit, is_idle}
 use Rattle.wx_endpoint.specs.History.{seen_by, MayStand, CarriesOn}
 use Rattle.wx_endpoint.specs.Turn.{CursorState}
 use Rattle.wx_run.specs.declared.outcome.RunEnd.{RunEnd}
-use Rattle.wx_run.specs.Opening.{entered, listened, plain_listen, first_listen, first_entries, opening_from, opening}
+use Rattle.wx_run.specs.Opening.{entered, listened, first_listen, first_entries, opening_from, opening}
 use Rattle.wx_run.specs.Opened.{scripts_at, AreBelow, AreIn, OpenedSoFar, IsOpenedBy, IsOpened}
-use Rattle.wx_run.specs.Cursors.{cursor_of, cursor_at_start, cursors_from, AreBehind, scripts_in, is_spent_at}
+use Rattle.wx_run.specs.Cursors.{cursor_of, cursor_at_start, cursors_from, AreBehind, scripts_in}
 use Rattle.wx_run.specs.Rounds.{Rounds}
 use Rattle.wx_run.specs.Round.{AllStand, AreRounds, Follows, IsWithinLimit}
-use Rattle.wx_run.specs.Run.{IsRunOf, EndsBy}
-use Rattle.wx_run.specs.Step.{IsReady, Moves, Rests, IsStep}
+use Rattle.wx_run.specs.Run.{IsRunOf}
+use Rattle.wx_run.specs.Step.{IsReady, Moves, IsStep}
 use Rattle.wx_run.proofs.ListLemmas.{take-snoc, length-take-at}
-use Rattle.wx_run.proofs.CursorLemmas.{is_by-own, is_by-other, place_of-own, place_of-other, entries_by-own, entries_by-other, cursors_from-later, cursors_from-append, length-cursors_from, scripts_in-cursors_from}
+use Rattle.wx_run.proofs.CursorLemmas.{is_by-own, is_by-other, place_of-own, place_of-other, entries_by-own, entries_by-other, cursors_from-later, cursors_from-append, scripts_in-cursors_from}
 use Rattle.wx_run.proofs.SeenLemmas.{may_stand}
 use Rattle.wx_run.proofs.RoundLemmas.{follows_script, within_more}
 use Rattle.wx_run.proofs.RunLemmas.{begins_with}

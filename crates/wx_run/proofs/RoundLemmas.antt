@@ -1,5 +1,5 @@
 -- One more turn of a round.
-use Rattle.std.proofs.Common.{◌≡◌, ℕ, zero, suc, ◌+◌, ◌-◌, ◌<◌, ◌≤◌, length, take, set, get_or, arith, Bool, true, false, List, [], ◌∷◌, ◌++◌, Some, None, refl, sym, ap, ◌∙◌, subst, inl, inr, eqb}
+use Rattle.std.proofs.Common.{◌≡◌, ℕ, zero, suc, ◌+◌, ◌<◌, ◌≤◌, length, take, set, get_or, arith, Bool, true, false, List, [], ◌∷◌, ◌++◌, Some, None, refl, sym, ap, ◌∙◌, subst, inl, inr, eqb}
 use Rattle.std.specs.Prelude.{slice_get, ◌||◌}
 use Rattle.std.proofs.lemmas.Bool.{cases_lt, eqb-true, eq-eqb}
 use Rattle.std.proofs.lemmas.Option.{slice_get_read, slice_get_within}
@@ -8,9 +8,6 @@ use Rattle.wx_id.specs.declared.numbers.ContextNo.{ContextNo}
 use Rattle.wx_machine.specs.declared.world.World.{World}
 use Rattle.wx_machine.specs.declared.entries.Who.TheVariants.{Context as ByContext}
 use Rattle.wx_machine.specs.declared.entries.Entry.{Entry}
-use Rattle.wx_machine.specs.Answers.{FollowsMachine}
-use Rattle.wx_machine.specs.Contexts.{contexts}
-use Rattle.wx_machine.specs.Each.{EachAfter}
 use Rattle.wx_script.specs.declared.script.Command.{Command}
 use Rattle.wx_script.specs.Places.{next_of}
 use Rattle.wx_script.specs.Carries.{FollowsScript, AskedOf, MayCome}
@@ -21,7 +18,7 @@ use Rattle.wx_run.specs.declared.rounds.Rounded.TheVariants.{Spent}
 use Rattle.wx_run.specs.Cursors.{cursor_of, cursors_from, AreBehind, is_spent_at, first_spent_in, work_in, scripts_in}
 use Rattle.wx_run.specs.Rounds.{Turn, Turns, IsOver}
 use Rattle.wx_run.specs.Step.{IsReady, Moves, Rests, IsStep}
-use Rattle.wx_run.specs.Round.{AllStand, Follows, IsWithinLimit, AreIdleBelow, IdleUnlessMoved, RoundSoFar, IsRound, Lessens}
+use Rattle.wx_run.specs.Round.{AllStand, IsWithinLimit, AreIdleBelow, IdleUnlessMoved, RoundSoFar, IsRound, Lessens}
 use Rattle.wx_run.proofs.ListLemmas.{take-snoc, length-take-at, set_same, element_at}
 use Rattle.wx_run.proofs.SeenLemmas.{carries_on}
 use Rattle.wx_run.proofs.CursorLemmas.{cursors_from-own, slice_get-cursors_from, length-cursors_from, scripts_in-cursors_from, entries_by-own, entries_by-other}

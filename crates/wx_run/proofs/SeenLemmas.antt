@@ -1,5 +1,5 @@
 -- The history of a context is the journal itself, with its own entries marked.
-use Rattle.std.proofs.Common.{◌≡◌, ℕ, ◌+◌, cond, Bool, true, false, List, [], ◌∷◌, Some, refl, sym, ap, ◌∙◌, subst}
+use Rattle.std.proofs.Common.{◌≡◌, ◌+◌, cond, true, false, List, [], ◌∷◌, Some, refl, sym, ap, ◌∙◌, subst}
 use Rattle.std.specs.Prelude.{slice_get}
 use Rattle.std.proofs.lemmas.Bool.{eqb-true}
 use Rattle.wx_id.specs.declared.numbers.ContextNo.{ContextNo}
@@ -8,10 +8,10 @@ use Rattle.wx_machine.specs.declared.entries.Who.TheVariants.{Context as ByConte
 use Rattle.wx_machine.specs.declared.entries.Entry.{Entry}
 use Rattle.wx_machine.specs.Contexts.{is_by}
 use Rattle.wx_script.specs.declared.script.Command.{Command}
-use Rattle.wx_script.specs.Places.{Place, behind_entry, place_of, next_at, next_of}
-use Rattle.wx_script.specs.Carries.{MayCome, IsAskedOf, AskedOf, FollowsScript}
+use Rattle.wx_script.specs.Places.{behind_entry, place_of, next_at, next_of}
+use Rattle.wx_script.specs.Carries.{MayCome, IsAskedOf, AskedOf}
 use Rattle.wx_script.specs.Ends.{entries_by}
-use Rattle.wx_endpoint.specs.History.{Seen, entries_in, seen_by, own_in, place_in, MayStand, CarriesOn}
+use Rattle.wx_endpoint.specs.History.{entries_in, seen_by, own_in, place_in, MayStand, CarriesOn}
 use Rattle.wx_run.specs.Round.{Follows}
 
 pub entries_in-seen_by : (c : ContextNo) (past : List Entry) → entries_in (seen_by c past) ≡ past

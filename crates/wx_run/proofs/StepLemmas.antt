@@ -1,5 +1,5 @@
 -- What a turn at a desk does to the one journal.
-use Rattle.std.proofs.Common.{◌≡◌, ℕ, ◌+◌, ◌<◌, ◌⊎◌, inl, inr, Bool, true, false, arith, List, [], ◌∷◌, ◌++◌, refl, sym, ap, ◌∙◌, subst}
+use Rattle.std.proofs.Common.{◌≡◌, ◌<◌, ◌⊎◌, inl, inr, true, false, List, ◌∷◌, ◌++◌, refl, sym, ap, ◌∙◌, subst}
 use Rattle.std.specs.Prelude.{nat_le, ◌&&◌, not}
 use Rattle.wx_id.specs.declared.numbers.ContextNo.{ContextNo}
 use Rattle.wx_machine.specs.declared.world.World.{World}
@@ -11,11 +11,9 @@ use Rattle.wx_machine.specs.Answers.{FollowsMachine}
 use Rattle.wx_machine.specs.Contexts.{contexts}
 use Rattle.wx_machine.specs.Each.{EachAfter}
 use Rattle.wx_machine.specs.Events.{has_pending}
-use Rattle.wx_script.specs.declared.script.Command.{Command}
-use Rattle.wx_script.specs.Places.{Place, outside, within, left, waits, ends, next_at, next_of, place_of}
-use Rattle.wx_script.specs.Carries.{MayCome}
-use Rattle.wx_script.specs.Ends.{is_idle, entries_by, entry_limit}
-use Rattle.wx_endpoint.specs.History.{Seen, entries_in, seen_by, own_in, place_in, CarriesOn}
+use Rattle.wx_script.specs.Places.{Place, outside, within, left, waits, ends, next_at, next_of}
+use Rattle.wx_script.specs.Ends.{is_idle, entry_limit}
+use Rattle.wx_endpoint.specs.History.{entries_in, seen_by, CarriesOn}
 use Rattle.wx_endpoint.specs.Steps.{DeskState, IsSound, MakesNone, own_entry}
 use Rattle.wx_endpoint.specs.Turn as turn
 use Rattle.wx_endpoint.specs.Turn.{CursorState, StandsBehind, is_left}

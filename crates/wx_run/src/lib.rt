@@ -6,8 +6,8 @@ mod outcome;
 mod rounds;
 mod run;
 mod step;
+#[cfg(test)]
+mod tests;
 
-pub use opening::open;
 pub use outcome::{Outcome, RunEnd, SpentWho};
-pub use rounds::{Rounded, first_spent, round, run_rounds};
 pub use run::run_scene;

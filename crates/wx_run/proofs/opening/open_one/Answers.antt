@@ -1,8 +1,8 @@
-use Rattle.std.proofs.Common.{rules, ◌≡◌, ◌∙◌, sym, subst}
+use Rattle.std.proofs.Common.{sym, subst}
 use Rattle.std.specs.Prelude.{reverse}
 use Rattle.wx_endpoint.specs.Turn.{CursorState}
 use Rattle.wx_run.specs.Step.{IsReady}
-use Rattle.wx_run.proofs.OpeningLemmas.{enter_leaves, ready_opened}
+use Rattle.wx_run.proofs.OpeningLemmas.{ready_opened}
 use Rattle.wx_run.proofs.opening.open_one.Goals as goal
 
 pub make_turn-requires : goal.make_turn-requires

@@ -1,10 +1,10 @@
-use Rattle.std.proofs.Common.{◌≡◌, ◌∙◌, ◌<◌, ◌+◌, length, arith, sym, ap, subst, refl, set}
+use Rattle.std.proofs.Common.{◌∙◌, ◌<◌, length, arith, sym, subst, refl}
 use Rattle.std.specs.Prelude.{reverse}
 use Rattle.wx_script.specs.Ends.{numbered}
 use Rattle.wx_run.specs.Cursors.{scripts_in}
 use Rattle.wx_run.specs.Step.{IsReady, IsStep}
 use Rattle.wx_run.specs.Round.{RoundSoFar}
-use Rattle.wx_run.proofs.RoundLemmas.{At, at_index, ready_at, turn_made, turn_spends, turn_lessens, round_begins, all_turns, all_idle, length_behind}
+use Rattle.wx_run.proofs.RoundLemmas.{at_index, ready_at, turn_made, turn_spends, turn_lessens, round_begins, all_turns, all_idle, length_behind}
 use Rattle.wx_run.proofs.rounds.round.Goals as goal
 
 pub loop-i-init : goal.loop-i-init
