@@ -2,6 +2,8 @@
 #![tactic(auto)]
 
 mod draft;
+#[cfg(test)]
+mod fault_tests;
 pub mod laws;
 mod line;
 mod names;
