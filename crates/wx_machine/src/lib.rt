@@ -11,6 +11,6 @@ mod world;
 
 pub use contexts::{Context, Listens, Target};
 pub use entries::{Answer, Call, Entry, Who};
-pub use texts::{PagePath, PathFault};
+pub use texts::{PagePath, PathFault, are_printable, is_page_path};
 pub use world::World;
 pub use wx_json::JsonText;

@@ -2,8 +2,11 @@
 #![tactic(auto)]
 
 mod draft;
+#[cfg(test)]
+mod fault_tests;
 pub mod laws;
 mod line;
+mod names;
 mod reading;
 mod scene;
 mod script;
