@@ -13,11 +13,12 @@ use Rattle.wx_machine.specs.Each.{EachAfter}
 use Rattle.wx_machine.specs.Events.{has_pending}
 use Rattle.wx_endpoint.specs.History.{Seen, entries_in}
 
--- what a desk tells: the endpoint's context, the world, and what it has seen
+-- what a desk tells: the endpoint's context, the world, what it has seen, and whether nobody else makes entries there
 pub record DeskState : Type 0 where
   pub context : ContextNo
   pub world : World
   pub history : List Seen
+  pub alone : Bool
 
 -- the entries of a desk's journal, the newest first
 abbrev pub past_of : DeskState → List Entry
@@ -33,13 +34,15 @@ abbrev pub AreOthers : List Seen → Type 0
 AreOthers [] = Unit {0}
 AreOthers (s ∷ others) = AreOthers others × (s.own ≡ false)
 
--- The endpoint made no entry: at most entries of others came in.
+-- The endpoint made no entry: at most entries of others came in, and none where it is alone.
 pub record MakesNone (old new : DeskState) : Type 0 where
   pub others : List Seen
   pub none_own : AreOthers others
+  pub none_came : old.alone ≡ true → others ≡ []
   pub seen : new.history ≡ others ++ old.history
   pub same_context : new.context ≡ old.context
   pub same_world : new.world ≡ old.world
+  pub same_alone : new.alone ≡ old.alone
 
 -- the endpoint's own entry
 abbrev pub own_entry : DeskState → Call → Answer → Seen

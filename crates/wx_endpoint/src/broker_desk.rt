@@ -12,10 +12,10 @@ pub struct BrokerDesk {
 }
 
 impl Desk for BrokerDesk {
-    ghost use Rattle.std.specs.Prelude.{reverse};
+    ghost use Rattle.std.specs.Prelude.{reverse, true};
     ghost use Rattle.wx_endpoint.specs.History.{seen_by};
 
-    ghost state = { λ desk. record { context = desk.context; world = desk.broker.world; history = seen_by desk.context (reverse desk.broker.entries) } };
+    ghost state = { λ desk. record { context = desk.context; world = desk.broker.world; history = seen_by desk.context (reverse desk.broker.entries); alone = true } };
 
     fn listen(&mut self, _l: Listens) -> Result<Answer, NoMemory> {
         Err(NoMemory)

@@ -1,3 +1,7 @@
+pub mod Opening
 pub mod Rounds
 pub mod Run
-pub mod Opening
+pub mod Cursors
+pub mod Step
+pub mod Round
+pub mod Opened

@@ -1,8 +1,13 @@
 //! Runs of a scene in rounds, over the broker.
 #![tactic(auto)]
 
+mod opening;
 mod outcome;
+mod rounds;
 mod run;
+mod step;
+#[cfg(test)]
+mod tests;
 
 pub use outcome::{Outcome, RunEnd};
 pub use run::run_scene;

@@ -3,6 +3,8 @@
 
 mod draft;
 pub mod endings;
+#[cfg(test)]
+mod fault_tests;
 pub mod laws;
 mod line;
 mod names;

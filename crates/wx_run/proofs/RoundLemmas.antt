@@ -1,0 +1,230 @@
+-- One more turn of a round.
+use Rattle.std.proofs.Common.{◌≡◌, ℕ, zero, suc, ◌+◌, ◌<◌, ◌≤◌, length, take, set, get_or, arith, Bool, true, false, List, [], ◌∷◌, ◌++◌, Some, None, refl, sym, ap, ◌∙◌, subst, inl, inr, eqb}
+use Rattle.std.specs.Prelude.{slice_get, ◌||◌}
+use Rattle.std.proofs.lemmas.Bool.{cases_lt, eqb-true, eq-eqb}
+use Rattle.std.proofs.lemmas.Option.{slice_get_read, slice_get_within}
+use Rattle.std.proofs.Math.Seq.{take-length}
+use Rattle.wx_id.specs.declared.numbers.ContextNo.{ContextNo}
+use Rattle.wx_machine.specs.declared.world.World.{World}
+use Rattle.wx_machine.specs.declared.entries.Who.TheVariants.{Context as ByContext}
+use Rattle.wx_machine.specs.declared.entries.Entry.{Entry}
+use Rattle.wx_script.specs.declared.script.Command.{Command}
+use Rattle.wx_script.specs.Places.{next_of}
+use Rattle.wx_script.specs.Carries.{FollowsScript, AskedOf, MayCome}
+use Rattle.wx_script.specs.Ends.{numbered, is_idle, entries_by, entry_limit}
+use Rattle.wx_endpoint.specs.History.{seen_by, CarriesOn}
+use Rattle.wx_endpoint.specs.Turn.{CursorState}
+use Rattle.wx_run.specs.declared.rounds.Rounded.TheVariants.{Spent}
+use Rattle.wx_run.specs.Cursors.{cursor_of, cursors_from, AreBehind, is_spent_at, first_spent_in, work_in, scripts_in}
+use Rattle.wx_run.specs.Rounds.{Turn, Turns, IsOver}
+use Rattle.wx_run.specs.Step.{IsReady, Moves, Rests, IsStep}
+use Rattle.wx_run.specs.Round.{AllStand, IsWithinLimit, AreIdleBelow, IdleUnlessMoved, RoundSoFar, IsRound, Lessens}
+use Rattle.wx_run.proofs.ListLemmas.{take-snoc, length-take-at, set_same, element_at}
+use Rattle.wx_run.proofs.SeenLemmas.{carries_on}
+use Rattle.wx_run.proofs.CursorLemmas.{cursors_from-own, slice_get-cursors_from, length-cursors_from, scripts_in-cursors_from, entries_by-own, entries_by-other}
+use Rattle.wx_run.proofs.EndLemmas.{unspent_at, unspent-set, spent-set}
+
+-- the endpoint of number i, its cursor, and the cursors behind its turn
+pub record At (scripts : List (List Command)) (i : ℕ) (ps qs : List CursorState) (p q : CursorState) : Type 0 where
+  pub script : List Command
+  pub is_endpoint : slice_get scripts i ≡ Some script
+  pub stands : slice_get ps i ≡ Some p
+  pub below : i < length ps
+  pub changed : qs ≡ set ps i q
+
+pub length_behind : (scripts : List (List Command)) (ps : List CursorState) (past : List Entry) → AreBehind scripts ps past → length ps ≡ length scripts
+length_behind scripts ps past behind = ap length behind ∙ length-cursors_from scripts 0 past
+
+pub scripts_behind : (scripts : List (List Command)) (ps : List CursorState) (past : List Entry) → AreBehind scripts ps past → scripts_in ps ≡ scripts
+scripts_behind scripts ps past behind = ap scripts_in behind ∙ scripts_in-cursors_from scripts 0 past
+
+pub at_index : (scripts : List (List Command)) (ps : List CursorState) (i : ℕ) (p q : CursorState) (past : List Entry) → AreBehind scripts ps past → i < length ps → p ≡ get_or ps i p → At scripts i ps (set ps i q) p q
+at_index scripts ps i p q past behind below is =
+    let len : length ps ≡ length scripts = length_behind scripts ps past behind in
+    let script = element_at scripts i (omega (arith, len)) in
+    record { script = script.0; is_endpoint = script.1; stands = slice_get_read ps (length ps) i p refl below is; below = below; changed = refl }
+
+-- its cursor is the one behind its endpoint's entries
+stands_at : (scripts : List (List Command)) (i : ℕ) (ps qs : List CursorState) (p q : CursorState) (past : List Entry) → AreBehind scripts ps past → (at : At scripts i ps qs p q) → p ≡ cursor_of at.script (numbered i) past
+stands_at scripts i ps qs p q past behind at =
+    let there : slice_get ps i ≡ Some (cursor_of at.script (numbered i) past) = rw behind (slice_get-cursors_from scripts 0 i i at.script past at.is_endpoint (omega arith)) in
+    let both : Some p ≡ Some (cursor_of at.script (numbered i) past) = sym at.stands ∙ there in
+    cc
+
+pub ready_at : (world : World) (scripts : List (List Command)) (i : ℕ) (ps qs : List CursorState) (p q : CursorState) (past : List Entry) → AllStand world scripts ps past → first_spent_in 0 ps ≡ None
+    → At scripts i ps qs p q → IsReady world (numbered i) p past
+ready_at world scripts i ps qs p q past stand unspent at =
+    let p_is = stands_at scripts i ps qs p q past stand.behind at in
+    let same_script : at.script ≡ p.script = sym (ap (λ (p : CursorState). p.script) p_is) in
+    let below : i < length scripts = slice_get_within scripts i at.script at.is_endpoint in
+    record {
+      legal = stand.legal;
+      given = (let all = stand.all_in in omega arith);
+      behind = p_is ∙ ap (λ s. cursor_of s (numbered i) past) same_script;
+      carries = subst (λ s. CarriesOn s (numbered i) (seen_by (numbered i) past)) same_script (carries_on scripts at.script (numbered i) past at.is_endpoint stand.follows);
+      unspent = unspent_at ps 0 i p unspent at.stands;
+    }
+
+pub Turns-snoc : (ss : List (List Command)) (s : List Command) (n m : ℕ) (a b c : List Entry) → m ≡ n + length ss → Turns ss n a b → Turn s (numbered m) b c → Turns (ss ++ s ∷ []) n a c
+Turns-snoc [] s n m a b c at so turn =
+    let here : m ≡ n = omega arith in
+    (c, subst (λ n. Turn s (numbered n) a c) here (subst (λ b. Turn s (numbered m) b c) so turn), refl)
+Turns-snoc (x ∷ ss) s n m a b c at so turn =
+    let next : m ≡ n + 1 + length ss = omega arith in
+    (so.0, so.1, Turns-snoc ss s (n + 1) m so.0 b c next so.2 turn)
+
+turns_step : (scripts : List (List Command)) (i : ℕ) (s : List Command) (a b c : List Entry) → slice_get scripts i ≡ Some s → Turns (take i scripts) 0 a b → Turn s (numbered i) b c → Turns (take (i + 1) scripts) 0 a c
+turns_step scripts i s a b c is so turn = rw (take-snoc scripts i s is) (Turns-snoc (take i scripts) s 0 i a b c (length-take-at scripts i s is) so turn)
+
+-- an entry that its endpoint's script asks for
+pub follows_script : (scripts : List (List Command)) (past : List Entry) (c : ContextNo) (s : List Command) (e : Entry) → e.who ≡ ByContext c → slice_get scripts c.0 ≡ Some s → MayCome past c (next_of s c past) e → FollowsScript scripts past e
+follows_script scripts past c s e own is asked =
+    let here : AskedOf scripts past (ByContext c) e = record { script = s; is_endpoint = is; asked = asked } in
+    subst (λ w. AskedOf scripts past w e) (sym own) here
+
+-- one more entry of a context that has entries left
+pub within_more : (c : ContextNo) (past : List Entry) (e : Entry) → e.who ≡ ByContext c → entries_by c past < entry_limit → IsWithinLimit past → IsWithinLimit (e ∷ past)
+within_more c past e own less within d =
+    let so : entries_by d past ≤ entry_limit = within d in
+    elim (eqb c.0 d.0) as (λ b. eqb c.0 d.0 ≡ b → entries_by d (e ∷ past) ≤ entry_limit) [
+      | true ↦ λ is.
+          let same : c.0 ≡ d.0 = eqb-true c.0 d.0 is in
+          let count : entries_by c past ≡ entries_by d past = ap (λ n. entries_by (numbered n) past) same in
+          let more : entries_by d (e ∷ past) ≡ entries_by d past + 1 = entries_by-own d past e (own ∙ ap (λ n. ByContext (numbered n)) same) in
+          omega (arith, less, count, more)
+      | false ↦ λ is.
+          let more : entries_by d (e ∷ past) ≡ entries_by d past = entries_by-other c d past e own (λ same. let never : true ≡ false = sym (eq-eqb c.0 d.0 same) ∙ is in cc) in
+          omega (arith, so, more)
+    ] refl
+
+moved_stand : (world : World) (scripts : List (List Command)) (i : ℕ) (ps qs : List CursorState) (p q : CursorState) (b c : List Entry) → AllStand world scripts ps b → At scripts i ps qs p q → Moves world (numbered i) p q b c → AllStand world scripts qs c
+moved_stand world scripts i ps qs p q b c stand at moves =
+    let p_is = stands_at scripts i ps qs p q b stand.behind at in
+    let e = moves.entry in
+    let same_script : p.script ≡ at.script = ap (λ (p : CursorState). p.script) p_is in
+    let q_is : q ≡ cursor_of at.script (numbered i) (e ∷ b) = moves.behind ∙ ap (λ s. cursor_of s (numbered i) c) same_script ∙ ap (λ c. cursor_of at.script (numbered i) c) moves.made in
+    let asked : MayCome b (numbered i) (next_of at.script (numbered i) b) e = subst (λ s. MayCome b (numbered i) (next_of s (numbered i) b) e) same_script moves.asked in
+    let here : AllStand world scripts qs (e ∷ b) = record {
+      legal = (stand.legal, moves.follows);
+      behind = at.changed ∙ ap (λ ps. set ps i q) stand.behind ∙ ap (λ q. set (cursors_from scripts 0 b) i q) q_is ∙ sym (cursors_from-own scripts 0 i i at.script b e at.is_endpoint (omega arith) moves.own);
+      follows = (stand.follows, follows_script scripts b (numbered i) at.script e moves.own at.is_endpoint asked);
+      all_in = (let all = stand.all_in in omega (arith, all));
+      within_limit = within_more (numbered i) b e moves.own moves.within_limit stand.within_limit;
+    } in
+    subst (λ c. AllStand world scripts qs c) (sym moves.made) here
+
+idle_step : (scripts : List (List Command)) (i : ℕ) (s : List Command) (a b : List Entry) → AreIdleBelow scripts i a b → slice_get scripts i ≡ Some s → is_idle b (numbered i) (next_of s (numbered i) b) ≡ true → AreIdleBelow scripts (i + 1) a b
+idle_step scripts i s a b idle is now = record {
+  same = idle.same;
+  idle = λ c t below is_c. elim (cases_lt c i) [
+    | inl lt ↦ idle.idle c t lt is_c
+    | inr le ↦
+        let here : i ≡ c = omega arith in
+        let same : s ≡ t = (let both : Some s ≡ Some t = sym is ∙ ap (λ c. slice_get scripts c) here ∙ is_c in cc) in
+        subst (λ j. is_idle j (numbered c) (next_of t (numbered c) j) ≡ true) idle.same
+        (subst (λ c. is_idle b (numbered c) (next_of t (numbered c) b) ≡ true) here (subst (λ s. is_idle b (numbered i) (next_of s (numbered i) b) ≡ true) same now))
+  ];
+}
+
+-- the turn of an endpoint that makes an entry, behind which it is not spent
+round_moves : (world : World) (scripts : List (List Command)) (i : ℕ) (ps qs : List CursorState) (p q : CursorState) (a b c : List Entry) (moved : Bool)
+    → RoundSoFar world scripts i ps a b moved → At scripts i ps qs p q → Moves world (numbered i) p q b c → is_spent_at q ≡ false → RoundSoFar world scripts (i + 1) qs a c true
+round_moves world scripts i ps qs p q a b c moved so at moves is = record {
+  stand = moved_stand world scripts i ps qs p q b c so.stand at moves;
+  unspent = ap (first_spent_in 0) at.changed ∙ unspent-set ps 0 i q at.below so.unspent is;
+  turns = turns_step scripts i at.script a b c at.is_endpoint so.turns (inl (record { entry = moves.entry; own = moves.own; made = moves.made }));
+  idle = tt;
+}
+
+-- the turn of an endpoint that makes an entry, behind which it is spent
+round_spends : (world : World) (scripts : List (List Command)) (i : ℕ) (ps qs : List CursorState) (p q : CursorState) (a b c : List Entry) (moved : Bool)
+    → RoundSoFar world scripts i ps a b moved → At scripts i ps qs p q → Moves world (numbered i) p q b c → is_spent_at q ≡ true
+    → AllStand world scripts qs c × IsRound scripts qs a c (Spent i)
+round_spends world scripts i ps qs p q a b c moved so at moves is = (
+  moved_stand world scripts i ps qs p q b c so.stand at moves,
+  (
+    turns_step scripts i at.script a b c at.is_endpoint so.turns (inl (record { entry = moves.entry; own = moves.own; made = moves.made })),
+    ap (first_spent_in 0) at.changed ∙ spent-set ps 0 i i q at.below (omega arith) so.unspent is,
+  ),
+)
+
+same_cursors : (scripts : List (List Command)) (i : ℕ) (ps qs : List CursorState) (p q : CursorState) → At scripts i ps qs p q → q ≡ p → qs ≡ ps
+same_cursors scripts i ps qs p q at same = at.changed ∙ ap (λ q. set ps i q) same ∙ set_same ps i p at.stands
+
+-- the turn of an endpoint that can do nothing
+round_rests : (world : World) (scripts : List (List Command)) (i : ℕ) (ps qs : List CursorState) (p q : CursorState) (a b c : List Entry) (moved : Bool)
+    → RoundSoFar world scripts i ps a b moved → At scripts i ps qs p q → Rests (numbered i) p q b c → RoundSoFar world scripts (i + 1) qs a c moved
+round_rests world scripts i ps qs p q a b c moved so at rests =
+    let same : qs ≡ ps = same_cursors scripts i ps qs p q at rests.same_cursor in
+    let p_is = stands_at scripts i ps qs p q b so.stand.behind at in
+    let idle : is_idle b (numbered i) (next_of at.script (numbered i) b) ≡ true = subst (λ s. is_idle b (numbered i) (next_of s (numbered i) b) ≡ true) (ap (λ (p : CursorState). p.script) p_is) rests.idle in
+    let here : RoundSoFar world scripts (i + 1) ps a b moved = record {
+      stand = so.stand;
+      unspent = so.unspent;
+      turns = turns_step scripts i at.script a b b at.is_endpoint so.turns (inr (record { idle = idle; same = refl }));
+      idle = elim moved as (λ m. IdleUnlessMoved scripts i a b m → IdleUnlessMoved scripts (i + 1) a b m) [
+        | true ↦ λ g. g
+        | false ↦ λ g. idle_step scripts i at.script a b g at.is_endpoint idle
+      ] so.idle;
+    } in
+    subst (λ c. RoundSoFar world scripts (i + 1) qs a c moved) (sym rests.same) (subst (λ qs. RoundSoFar world scripts (i + 1) qs a b moved) (sym same) here)
+
+-- ---- fewer entries may still be made
+
+work_in-set : (ps : List CursorState) (i : ℕ) (p q : CursorState) → slice_get ps i ≡ Some p → p.made < entry_limit → q.made ≡ p.made + 1 → work_in (set ps i q) < work_in ps
+work_in-set [] i p q is less more = absurd cc
+work_in-set (r ∷ ps) zero p q is less more =
+    let same : r ≡ p = cc in
+    let made : r.made ≡ p.made = ap (λ (p : CursorState). p.made) same in
+    omega arith
+work_in-set (r ∷ ps) (suc i) p q is less more = omega (arith, work_in-set ps i p q is less more)
+
+moves_less : (world : World) (scripts : List (List Command)) (i : ℕ) (ps qs : List CursorState) (p q : CursorState) (b c : List Entry) → AllStand world scripts ps b → At scripts i ps qs p q → Moves world (numbered i) p q b c → work_in qs < work_in ps
+moves_less world scripts i ps qs p q b c stand at moves =
+    let p_is = stands_at scripts i ps qs p q b stand.behind at in
+    let made : p.made ≡ entries_by (numbered i) b = ap (λ (p : CursorState). p.made) p_is in
+    let more : q.made ≡ entries_by (numbered i) b + 1 =
+    ap (λ (q : CursorState). q.made) moves.behind ∙ ap (entries_by (numbered i)) moves.made ∙ entries_by-own (numbered i) b moves.entry moves.own in
+    let less : p.made < entry_limit = (let below = moves.within_limit in omega arith) in
+    rw at.changed (work_in-set ps i p q at.stands less (omega arith))
+
+-- ---- one more turn, whatever it came to
+
+pub turn_made : (world : World) (scripts : List (List Command)) (i : ℕ) (ps qs : List CursorState) (p q : CursorState) (a b c : List Entry) (moved made : Bool)
+    → RoundSoFar world scripts i ps a b moved → At scripts i ps qs p q → IsStep world (numbered i) p q b c made → is_spent_at q ≡ false → RoundSoFar world scripts (i + 1) qs a c (moved || made)
+turn_made world scripts i ps qs p q a b c true true so at step is = round_moves world scripts i ps qs p q a b c true so at step is
+turn_made world scripts i ps qs p q a b c false true so at step is = round_moves world scripts i ps qs p q a b c false so at step is
+turn_made world scripts i ps qs p q a b c true false so at step is = round_rests world scripts i ps qs p q a b c true so at step
+turn_made world scripts i ps qs p q a b c false false so at step is = round_rests world scripts i ps qs p q a b c false so at step
+
+pub turn_spends : (world : World) (scripts : List (List Command)) (i : ℕ) (ps qs : List CursorState) (p q : CursorState) (a b c : List Entry) (moved made : Bool)
+    → RoundSoFar world scripts i ps a b moved → At scripts i ps qs p q → IsStep world (numbered i) p q b c made → is_spent_at q ≡ true → AllStand world scripts qs c × IsRound scripts qs a c (Spent i)
+turn_spends world scripts i ps qs p q a b c moved true so at step is = round_spends world scripts i ps qs p q a b c moved so at step is
+turn_spends world scripts i ps qs p q a b c moved false so at step is =
+    let never : true ≡ false = sym is ∙ ap is_spent_at step.same_cursor ∙ unspent_at ps 0 i p so.unspent at.stands in
+    absurd cc
+
+pub turn_lessens : (world : World) (scripts : List (List Command)) (i : ℕ) (ps qs : List CursorState) (p q : CursorState) (a b c : List Entry) (moved made : Bool) (old : ℕ)
+    → RoundSoFar world scripts i ps a b moved → At scripts i ps qs p q → IsStep world (numbered i) p q b c made → Lessens moved old (work_in ps) → Lessens (moved || made) old (work_in qs)
+turn_lessens world scripts i ps qs p q a b c true true old so at step less = let e = moves_less world scripts i ps qs p q b c so.stand at step in omega (arith, e, less)
+turn_lessens world scripts i ps qs p q a b c false true old so at step less = let e = moves_less world scripts i ps qs p q b c so.stand at step in omega (arith, e, less)
+turn_lessens world scripts i ps qs p q a b c true false old so at step less = let e : work_in qs ≡ work_in ps = ap work_in (same_cursors scripts i ps qs p q at step.same_cursor) in omega (arith, e, less)
+turn_lessens world scripts i ps qs p q a b c false false old so at step less = let e : work_in qs ≡ work_in ps = ap work_in (same_cursors scripts i ps qs p q at step.same_cursor) in omega (arith, e, less)
+
+pub round_begins : (world : World) (scripts : List (List Command)) (ps : List CursorState) (a : List Entry) → AllStand world scripts ps a → first_spent_in 0 ps ≡ None → RoundSoFar world scripts 0 ps a a false
+round_begins world scripts ps a stand unspent = record { stand = stand; unspent = unspent; turns = refl; idle = record { same = refl; idle = λ c s below is. absurd (omega arith) } }
+
+-- ---- a whole round
+
+pub all_turns : (world : World) (scripts : List (List Command)) (i : ℕ) (ps : List CursorState) (a b : List Entry) (moved : Bool) → i ≡ length scripts → RoundSoFar world scripts i ps a b moved → Turns scripts 0 a b
+all_turns world scripts i ps a b moved all so = subst (λ t. Turns t 0 a b) (ap (λ i. take i scripts) all ∙ take-length scripts) so.turns
+
+pub all_idle : (world : World) (scripts : List (List Command)) (i : ℕ) (ps : List CursorState) (a b : List Entry) → i ≡ length scripts → RoundSoFar world scripts i ps a b false → IsOver scripts a b
+all_idle world scripts i ps a b all so =
+    let idle = so.idle in
+    record {
+      idle = λ c s is.
+          let below : c < length scripts = slice_get_within scripts c s is in
+          subst (λ j. is_idle j (numbered c) (next_of s (numbered c) j) ≡ true) (sym idle.same) (idle.idle c s (omega arith) is);
+      same = idle.same;
+    }

@@ -1,0 +1,58 @@
+-- The history of a context is the journal itself, with its own entries marked.
+use Rattle.std.proofs.Common.{◌≡◌, ◌+◌, cond, true, false, List, [], ◌∷◌, Some, refl, sym, ap, ◌∙◌, subst}
+use Rattle.std.specs.Prelude.{slice_get}
+use Rattle.std.proofs.lemmas.Bool.{eqb-true}
+use Rattle.wx_id.specs.declared.numbers.ContextNo.{ContextNo}
+use Rattle.wx_machine.specs.declared.entries.Who.{Who}
+use Rattle.wx_machine.specs.declared.entries.Who.TheVariants.{Context as ByContext}
+use Rattle.wx_machine.specs.declared.entries.Entry.{Entry}
+use Rattle.wx_machine.specs.Contexts.{is_by}
+use Rattle.wx_script.specs.declared.script.Command.{Command}
+use Rattle.wx_script.specs.Places.{behind_entry, place_of, next_at, next_of}
+use Rattle.wx_script.specs.Carries.{MayCome, IsAskedOf, AskedOf}
+use Rattle.wx_script.specs.Ends.{entries_by}
+use Rattle.wx_endpoint.specs.History.{entries_in, seen_by, own_in, place_in, MayStand, CarriesOn}
+use Rattle.wx_run.specs.Round.{Follows}
+
+pub entries_in-seen_by : (c : ContextNo) (past : List Entry) → entries_in (seen_by c past) ≡ past
+entries_in-seen_by c [] = refl
+entries_in-seen_by c (e ∷ past) = ap (λ es. e ∷ es) (entries_in-seen_by c past)
+
+pub place_in-seen_by : (s : List Command) (c : ContextNo) (past : List Entry) → place_in s (seen_by c past) ≡ place_of s c past
+unfolding place_of
+place_in-seen_by s c [] = refl
+place_in-seen_by s c (e ∷ past) = ap (λ p. behind_entry s c p e) (place_in-seen_by s c past)
+
+pub own_in-seen_by : (c : ContextNo) (past : List Entry) → own_in (seen_by c past) ≡ entries_by c past
+own_in-seen_by c [] = refl
+own_in-seen_by c (e ∷ past) = ap (λ n. cond (is_by e.who c) 1 0 + n) (own_in-seen_by c past)
+
+-- what an endpoint's script asks for, where its number is known
+asked_of : (scripts : List (List Command)) (s : List Command) (past : List Entry) (who : Who) (c : ContextNo) (e : Entry)
+    → AskedOf scripts past who e → is_by who c ≡ true → slice_get scripts c.0 ≡ Some s → MayCome past c (next_of s c past) e
+asked_of scripts s past (ByContext d) c e asked is_c is =
+    let same : d.0 ≡ c.0 = eqb-true d.0 c.0 is_c in
+    let here : IsAskedOf scripts past c e = subst (λ n. IsAskedOf scripts past (record { 0 = n }) e) same asked in
+    let one : s ≡ here.script = (let both : Some s ≡ Some here.script = sym is ∙ here.is_endpoint in cc) in
+    subst (λ s. MayCome past c (next_of s c past) e) (sym one) here.asked
+
+pub may_stand : (s : List Command) (c : ContextNo) (past : List Entry) (e : Entry) → MayCome past c (next_of s c past) e → MayStand s c true (seen_by c past) e
+may_stand s c past e may =
+    subst (λ j. MayCome j c (next_at j (place_in s (seen_by c past))) e) (sym (entries_in-seen_by c past))
+    (subst (λ p. MayCome past c (next_at past p) e) (sym (place_in-seen_by s c past)) may)
+
+pub may_come : (s : List Command) (c : ContextNo) (past : List Entry) (e : Entry) → MayStand s c true (seen_by c past) e → MayCome past c (next_of s c past) e
+may_come s c past e stands =
+    subst (λ p. MayCome past c (next_at past p) e) (place_in-seen_by s c past)
+    (subst (λ j. MayCome j c (next_at j (place_in s (seen_by c past))) e) (entries_in-seen_by c past) stands)
+
+-- entries that follow the scripts carry on each of them
+pub carries_on : (scripts : List (List Command)) (s : List Command) (c : ContextNo) (past : List Entry) → slice_get scripts c.0 ≡ Some s → Follows scripts past → CarriesOn s c (seen_by c past)
+carries_on scripts s c [] is follows = tt
+carries_on scripts s c (e ∷ past) is follows = (
+  carries_on scripts s c past is follows.0,
+  elim (is_by e.who c) as (λ b. is_by e.who c ≡ b → MayStand s c b (seen_by c past) e) [
+    | true ↦ λ is_c. may_stand s c past e (asked_of scripts s past e.who c e follows.1 is_c is)
+    | false ↦ λ is_c. tt
+  ] refl,
+)

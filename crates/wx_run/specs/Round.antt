@@ -1,0 +1,82 @@
+-- What a round over all endpoints does. Every list of entries has the newest first.
+use Rattle.std.specs.Prelude.{◌≡◌, ℕ, ◌+◌, ◌<◌, ◌≤◌, Bool, true, false, length, take, List, slice_get, Some, None}
+use Rattle.wx_id.specs.declared.numbers.ContextNo.{ContextNo}
+use Rattle.wx_machine.specs.declared.world.World.{World}
+use Rattle.wx_machine.specs.declared.entries.Entry.{Entry}
+use Rattle.wx_machine.specs.Answers.{FollowsMachine}
+use Rattle.wx_machine.specs.Contexts.{contexts}
+use Rattle.wx_machine.specs.Each.{EachAfter}
+use Rattle.wx_script.specs.declared.script.Command.{Command}
+use Rattle.wx_script.specs.Places.{next_of}
+use Rattle.wx_script.specs.Carries.{FollowsScript}
+use Rattle.wx_script.specs.Ends.{numbered, is_idle, entries_by, entry_limit}
+use Rattle.wx_endpoint.specs.Turn.{CursorState}
+use Rattle.wx_run.specs.declared.outcome.RunEnd.{RunEnd}
+use Rattle.wx_run.specs.declared.rounds.Rounded.{Rounded}
+use Rattle.wx_run.specs.declared.rounds.Rounded.TheVariants.{Moved, Idle, Spent}
+use Rattle.wx_run.specs.Cursors.{AreBehind, first_spent_in}
+use Rattle.wx_run.specs.Rounds.{Turns, Rounds, IsOver}
+use Rattle.wx_run.specs.Run.{EndsBy}
+
+-- each entry follows the scripts
+abbrev pub Follows : List (List Command) → List Entry → Type 0
+Follows scripts past = EachAfter (FollowsScript scripts) past
+
+-- no context made more entries than it may
+abbrev pub IsWithinLimit : List Entry → Type 0
+IsWithinLimit past = (c : ContextNo) → entries_by c past ≤ entry_limit
+
+-- The journal is legal, the endpoints came in, their entries carry out the scripts, no more than they may, and the cursors stand behind them.
+pub record AllStand (world : World) (scripts : List (List Command)) (cursors : List CursorState) (past : List Entry) : Type 0 where
+  pub legal : EachAfter (FollowsMachine world) past
+  pub behind : AreBehind scripts cursors past
+  pub follows : Follows scripts past
+  pub all_in : length scripts ≤ contexts past
+  pub within_limit : IsWithinLimit past
+
+-- the first i endpoints can do nothing, and nothing was done
+pub record AreIdleBelow (scripts : List (List Command)) (i : ℕ) (before after : List Entry) : Type 0 where
+  pub same : after ≡ before
+  pub idle : (c : ℕ) (script : List Command) → c < i → slice_get scripts c ≡ Some script → is_idle before (numbered c) (next_of script (numbered c) before) ≡ true
+
+-- where no entry was made, they are idle
+abbrev pub IdleUnlessMoved : List (List Command) → ℕ → List Entry → List Entry → Bool → Type 0
+IdleUnlessMoved scripts i before after true = Unit {0}
+IdleUnlessMoved scripts i before after false = AreIdleBelow scripts i before after
+
+-- the first i endpoints have made their turns, and none is spent
+pub record RoundSoFar (world : World) (scripts : List (List Command)) (i : ℕ) (cursors : List CursorState) (before after : List Entry) (moved : Bool) : Type 0 where
+  pub stand : AllStand world scripts cursors after
+  pub unspent : first_spent_in 0 cursors ≡ None
+  pub turns : Turns (take i scripts) 0 before after
+  pub idle : IdleUnlessMoved scripts i before after moved
+
+-- A round: every endpoint has made its turn and none is spent; or none can do anything; or the last one that made its turn is spent.
+abbrev pub IsRound : List (List Command) → List CursorState → List Entry → List Entry → Rounded → Type 0
+IsRound scripts cursors before after Moved = Turns scripts 0 before after × (first_spent_in 0 cursors ≡ None)
+IsRound scripts cursors before after Idle = IsOver scripts before after × (first_spent_in 0 cursors ≡ None)
+IsRound scripts cursors before after (Spent n) = Turns (take (n + 1) scripts) 0 before after × (first_spent_in 0 cursors ≡ Some n)
+
+-- where an entry was made, fewer may still be made
+abbrev pub Lessens : Bool → ℕ → ℕ → Type 0
+Lessens true old new = new < old
+Lessens false old new = new ≡ old
+
+-- behind a whole round in which entries were made, fewer may still be made
+abbrev pub RoundLessens : Rounded → ℕ → ℕ → Type 0
+RoundLessens Moved old new = new < old
+RoundLessens _ old new = Unit {0}
+
+-- Rounds led from one past to another, and so the run ends.
+pub record AreRounds (scripts : List (List Command)) (before after : List Entry) (end : RunEnd) : Type 0 where
+  pub count : ℕ
+  pub rounds : Rounds count scripts before after
+  pub follows : Follows scripts after
+  pub within_limit : IsWithinLimit after
+  pub ended : EndsBy scripts after end
+
+-- Rounds led from one past to another so far: whatever rounds follow, they are rounds from the first.
+pub record RoundsSoFar (world : World) (scripts : List (List Command)) (cursors : List CursorState) (before after : List Entry) : Type 0 where
+  pub stand : AllStand world scripts cursors after
+  pub unspent : first_spent_in 0 cursors ≡ None
+  pub rounds : (m : ℕ) (last : List Entry) → Rounds m scripts after last → (n : ℕ) × Rounds n scripts before last
