@@ -3,12 +3,11 @@ use Rattle.std.specs.Prelude.{◌≡◌, ◌⊎◌, ℕ, List, Some, Ok}
 use Rattle.wx_outside.specs.Causes.{Rose}
 use Rattle.wx_outside.specs.Shelf.{Files, content_at}
 use Rattle.wx_script.specs.SceneValue.{SceneValue}
-use Rattle.wx_cmd.specs.declared.status.Status.{Status}
-use Rattle.wx_cmd.specs.declared.status.Status.TheVariants.{Done, NoMemory}
-use Rattle.wx_cmd.specs.Words.{scene_named}
+use Rattle.wx_status.specs.declared.status.Status.{Status}
+use Rattle.wx_status.specs.declared.status.Status.TheVariants.{Done, NoMemory}
+use Rattle.wx_words.specs.Words.{scene_named}
 use Rattle.wx_cmd.specs.Scenes.{scene_in}
-use Rattle.wx_cmd.specs.Told.{SinkChange, HasFailed}
-use Rattle.wx_cmd.specs.Headline.{ShelfChange}
+use Rattle.wx_status.specs.Changes.{ShelfChange, SinkChange, HasFailed}
 
 -- The words name a file, the shelf tells that a scene stands there, and nothing failed in the call.
 pub record NothingIsWrong (words : List (List ℕ)) (shelf : ShelfChange) (out err : SinkChange) : Type 0 where

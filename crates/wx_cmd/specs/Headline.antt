@@ -1,20 +1,16 @@
 -- The headline: what a call of the program answers, and why.
 use Rattle.std.specs.Prelude.{◌≡◌, ℕ, List, Option, Some, None, Ok, Err}
 use Rattle.wx_outside.specs.Causes.{Rose}
-use Rattle.wx_outside.specs.Shelf.{Files, Content, Tells}
+use Rattle.wx_outside.specs.Shelf.{Content, Tells}
 use Rattle.wx_script.specs.declared.scene.SceneFault.{SceneFault}
 use Rattle.wx_script.specs.SceneValue.{SceneValue}
-use Rattle.wx_cmd.specs.declared.status.Status.{Status}
-use Rattle.wx_cmd.specs.Words.{scene_named}
+use Rattle.wx_status.specs.declared.status.Status.{Status}
+use Rattle.wx_status.specs.Changes.{ShelfChange, SinkChange}
+use Rattle.wx_words.specs.Words.{scene_named}
+use Rattle.wx_plain.specs.Headline.{PlainHeadline}
 use Rattle.wx_cmd.specs.Scenes.{scene_in, IsTextOfRun}
-use Rattle.wx_cmd.specs.Verdict.{Verdict, usage, read_fault, refused, no_memory, ran}
-use Rattle.wx_cmd.specs.Told.{SinkChange, Told}
-
--- a shelf over a call: its files, where it tells them, and how many reads had failed
-pub record ShelfChange : Type 0 where
-  pub files : Option Files
-  pub faults_before : ℕ
-  pub faults_after : ℕ
+use Rattle.wx_cmd.specs.Verdict.{Verdict, read_fault, refused, no_memory, ran}
+use Rattle.wx_cmd.specs.Told.{Told}
 
 -- The words name a file, and a read failed in the call.
 pub record ReadFailed (words : List (List ℕ)) (shelf : ShelfChange) (file : List ℕ) : Type 0 where
@@ -43,14 +39,22 @@ pub record Ran (words : List (List ℕ)) (shelf : ShelfChange) (bytes : List ℕ
 
 -- the cause of each verdict, of which want of memory alone has none
 abbrev pub Judged : List (List ℕ) → ShelfChange → Verdict → Type 0
-Judged words shelf usage = scene_named words ≡ None
 Judged words shelf (read_fault file) = ReadFailed words shelf file
 Judged words shelf (refused fault) = Refused words shelf fault
 Judged words shelf no_memory = Unit {0}
 Judged words shelf (ran bytes) = Ran words shelf bytes
 
--- The call has a verdict, which has its cause, and tells it.
-pub record Headline (words : List (List ℕ)) (shelf : ShelfChange) (out err : SinkChange) (result : Status) : Type 0 where
+-- A call for a run has a verdict, which has its cause, and tells it.
+pub record RunHeadline (words : List (List ℕ)) (shelf : ShelfChange) (out err : SinkChange) (result : Status) : Type 0 where
   pub verdict : Verdict
   pub judged : Judged words shelf verdict
   pub told : Told verdict out err result
+
+-- by the scene that the words name
+abbrev pub HeadlineOf : Option (List ℕ) → List (List ℕ) → ShelfChange → SinkChange → SinkChange → Status → Type 0
+HeadlineOf (Some scene) words shelf out err result = RunHeadline words shelf out err result
+HeadlineOf None words shelf out err result = PlainHeadline words shelf out err result
+
+-- The words of a run have its headline, and all others that of the commands which make no run.
+abbrev pub Headline : List (List ℕ) → ShelfChange → SinkChange → SinkChange → Status → Type 0
+Headline words shelf out err result = HeadlineOf (scene_named words) words shelf out err result

@@ -1,10 +1,8 @@
--- What a call answers before it writes.
+-- What a call for a run answers before it writes.
 use Rattle.std.specs.Prelude.{ℕ, List}
 use Rattle.wx_script.specs.declared.scene.SceneFault.{SceneFault}
 
 pub data Verdict : Type 0 where
-  -- the words have none of the forms
-  usage : Verdict
   -- the file of this name could not be read
   read_fault : List ℕ → Verdict
   -- the scene is refused for this

@@ -1,23 +1,25 @@
-ghost use Rattle.std.specs.Prelude.{◌≡◌, ◌⊎◌, map, string_bytes, None, IfOk};
+ghost use Rattle.std.specs.Prelude.{◌≡◌, ◌⊎◌, List, ℕ, map, string_bytes, None, IfOk};
 ghost use Rattle.wx_outside.specs.Causes.{Rose};
 ghost use Rattle.wx_outside.specs.Shelf.{content, present};
-ghost use Rattle.wx_cmd.specs.declared.status.Status.TheVariants as status;
-ghost use Rattle.wx_cmd.specs.Words as forms;
+ghost use Rattle.wx_status.specs.declared.status.Status.TheVariants as status;
+ghost use Rattle.wx_words.specs.Words as forms;
+ghost use Rattle.wx_plain.specs.Complete.{IsPlainComplete};
 ghost use Rattle.wx_cmd.specs.View.{verdict_view};
 ghost use Rattle.wx_cmd.specs.Scenes as scenes;
 ghost use Rattle.wx_cmd.specs.Judging.{ComesTo};
-ghost use Rattle.wx_cmd.specs.Headline.{Headline, Judged};
+ghost use Rattle.wx_cmd.specs.Headline.{Headline, RunHeadline, Judged};
 ghost use Rattle.wx_cmd.specs.Complete.{IsComplete};
 
-use crate::status::Status;
 use crate::tell::{Verdict, tell};
-use crate::words::scene_named;
 use std::alloc::Global;
 use wx_id::NoMemory;
 use wx_machine::World;
 use wx_outside::{Found, Shelf, ShelfFault, Sink};
+use wx_plain::wx_plain;
 use wx_run::run_scene;
 use wx_script::{Scene, SceneFault, SceneKind, SceneReadFault};
+use wx_status::{Status, tell_no_memory};
+use wx_words::scene_named;
 
 /// The text of the journal of a run of the scene.
 fn run_text(alloc: Global, scene: &Scene) -> Result<Vec<u8>, NoMemory>
@@ -59,25 +61,41 @@ fn judge_found<'a>(alloc: Global, found: Found) -> Verdict<'a>
     }
 }
 
-/// What the call answers before it writes.
-fn judge<'a, F: Shelf>(alloc: Global, words: &'a [String], shelf: &mut F) -> Verdict<'a>
-    ensures judged { Judged (map string_bytes words.now)
+/// What the call answers for a run before it writes.
+fn judge<'a, F: Shelf>(alloc: Global, scene: &'a str, shelf: &mut F) -> Verdict<'a>
+    ensures judged { (words : List (List ℕ)) → forms.scene_named words ≡ Some scene.entry.now → Judged words
         (record { files = F.files shelf.old; faults_before = F.faults shelf.old; faults_after = F.faults shelf.new })
         (verdict_view result) }
     ensures unchanged { F.files shelf.new ≡ F.files shelf.old }
 {
-    let Some(name) = scene_named(words) else {
-        return Verdict::Usage;
-    };
-    match shelf.read(alloc, name) {
+    match shelf.read(alloc, scene) {
         Ok(found) => judge_found(alloc, found),
-        Err(ShelfFault::Failed) => Verdict::ReadFault(name),
+        Err(ShelfFault::Failed) => Verdict::ReadFault(scene),
         Err(ShelfFault::NoMemory) => Verdict::NoMemory,
     }
 }
 
+/// Runs the scene of this name, and tells what came of it.
+fn run_named<F: Shelf, O: Sink, E: Sink>(
+    alloc: Global,
+    scene: &str,
+    shelf: &mut F,
+    out: &mut O,
+    err: &mut E,
+) -> Status
+    ensures headline { (words : List (List ℕ)) → forms.scene_named words ≡ Some scene.now → RunHeadline words
+        (record { files = F.files shelf.old; faults_before = F.faults shelf.old; faults_after = F.faults shelf.new })
+        (record { before = O.written out.old; after = O.written out.new; faults_before = O.faults out.old; faults_after = O.faults out.new })
+        (record { before = E.written err.old; after = E.written err.new; faults_before = E.faults err.old; faults_after = E.faults err.new }) result }
+    ensures unchanged { F.files shelf.new ≡ F.files shelf.old }
+{
+    let verdict = judge(alloc, scene, shelf);
+    tell(alloc, verdict, out, err)
+}
+
 /// All that the program does: it reads the scene that the words name from the shelf, runs it, and tells what came of
-/// it on the two sinks. `words` are those of the command line behind the program's name.
+/// it on the two sinks; words that name no scene it hands to `wx_plain`. `words` are those of the command line behind the
+/// program's name.
 pub fn wx<F: Shelf, O: Sink, E: Sink>(
     alloc: Global,
     words: &[String],
@@ -90,19 +108,28 @@ pub fn wx<F: Shelf, O: Sink, E: Sink>(
         (record { files = F.files shelf.old; faults_before = F.faults shelf.old; faults_after = F.faults shelf.new })
         (record { before = O.written out.old; after = O.written out.new; faults_before = O.faults out.old; faults_after = O.faults out.new })
         (record { before = E.written err.old; after = E.written err.new; faults_before = E.faults err.old; faults_after = E.faults err.new }) result }
-    // Where nothing is wrong, it is done, unless memory was refused.
+    // Where nothing is wrong, a run is done, unless memory was refused.
     ensures complete { IsComplete (map string_bytes words.now)
+        (record { files = F.files shelf.old; faults_before = F.faults shelf.old; faults_after = F.faults shelf.new })
+        (record { before = O.written out.old; after = O.written out.new; faults_before = O.faults out.old; faults_after = O.faults out.new })
+        (record { before = E.written err.old; after = E.written err.new; faults_before = E.faults err.old; faults_after = E.faults err.new }) result }
+    // And of another command the output decides.
+    ensures complete_plain { forms.scene_named (map string_bytes words.now) ≡ None → IsPlainComplete (map string_bytes words.now)
         (record { files = F.files shelf.old; faults_before = F.faults shelf.old; faults_after = F.faults shelf.new })
         (record { before = O.written out.old; after = O.written out.new; faults_before = O.faults out.old; faults_after = O.faults out.new })
         (record { before = E.written err.old; after = E.written err.new; faults_before = E.faults err.old; faults_after = E.faults err.new }) result }
 
     // The causes of three answers, as the headline has them.
     ensures usage { result ≡ status.Usage → forms.scene_named (map string_bytes words.now) ≡ None }
+    ensures usage_plain { result ≡ status.Usage → forms.plain_command_of (map string_bytes words.now) ≡ None }
     ensures read_fault { result ≡ status.ReadFault → Rose (F.faults shelf.old) (F.faults shelf.new) }
     ensures write_fault { result ≡ status.WriteFault → Rose (O.faults out.old) (O.faults out.new) ⊎ Rose (E.faults err.old) (E.faults err.new) }
 
     ensures unchanged { F.files shelf.new ≡ F.files shelf.old }
 {
-    let verdict = judge(alloc, words, shelf);
-    tell(alloc, verdict, out, err)
+    match scene_named(alloc, words) {
+        Ok(Some(scene)) => run_named(alloc, scene, shelf, out, err),
+        Ok(None) => wx_plain(alloc, words, shelf, out, err),
+        Err(NoMemory) => tell_no_memory(err),
+    }
 }
