@@ -5,8 +5,9 @@ use std::alloc::AllocError;
 use std::env;
 use std::io::ErrorKind;
 use std::process::ExitCode;
-use wx_cmd::{Status, wx};
+use wx_cmd::wx;
 use wx_outside::{FileShelf, Sink, StreamSink};
+use wx_status::Status;
 
 /// The words behind the program's name. Words that are not all UTF-8 have none of the forms, as no words have.
 fn words(rt: &HostRuntime) -> Result<Vec<String>, AllocError> {

@@ -1,9 +1,10 @@
 use crate::wx;
 use std::alloc::{AllocError, Global};
 use std::test::Fail;
+use wx_match_pattern::{PatternFault, PatternKind};
 use wx_outside::{MemoryFile, MemoryShelf, MemorySink};
 use wx_script::SceneKind;
-use wx_status::Status;
+use wx_status::{InputKind, Status};
 
 /// Room for every text of these tests.
 const AMPLE: usize = 1000000;
@@ -348,20 +349,24 @@ fn words(rt: HostRuntime) -> Result<(), Fail> {
         line: 0,
         kind: SceneKind::Missing,
     };
-    let cases: [(&[&str], Status, &str); 13] = [
+    let cases: [(&[&str], Status, &str); 17] = [
         (&[], Status::Usage, USAGE),
         (&["run"], Status::Usage, USAGE),
-        (&["run", "s"], Status::Usage, USAGE),
         (&["run", "a", "b"], Status::Usage, USAGE),
         (&["run", "-x"], Status::Usage, USAGE),
         (&["run", "--rounds", "-x"], Status::Usage, USAGE),
         (&["run", "--rounds", "--rounds", "s"], Status::Usage, USAGE),
-        (&["storm", "5"], Status::Usage, USAGE),
+        (&["run", "--help"], Status::Usage, USAGE),
+        (&["storm", "0"], Status::Usage, USAGE),
+        (&["storm", "501"], Status::Usage, USAGE),
         (&["--help"], Status::Usage, USAGE),
+        (&["run", "t"], missing, MISSING),
         (&["run", "--rounds", "t"], missing, MISSING),
         (&["run", "--rounds", ""], missing, MISSING),
-        (&["run", "--rounds", "-"], missing, MISSING),
+        (&["run", "-"], missing, MISSING),
+        (&["run", "s"], Status::Done, ""),
         (&["run", "--rounds", "s"], Status::Done, ""),
+        (&["run", "s", "--rounds"], Status::Done, ""),
     ];
     for (words, status, line) in cases {
         let scene = Vec::from_slice(alloc, EMPTY.as_bytes())?;
@@ -519,6 +524,68 @@ fn faults(rt: HostRuntime) -> Result<(), Fail> {
         let mut err = sink_of(alloc, room.1);
         assert_eq!(rt;
             answer(alloc, &RUN, &mut shelf, &mut out, &mut err)?,
+            status
+        );
+        assert_eq!(rt; str::from_utf8(&out.bytes), Ok(on_out));
+        assert_eq!(rt; str::from_utf8(&err.bytes), Ok(on_err));
+    }
+    Ok(())
+}
+
+/// The other commands answer through the same call.
+#[test]
+fn other_commands(rt: HostRuntime) -> Result<(), Fail> {
+    let alloc = rt.alloc();
+    let pattern = Status::InputRefused(InputKind::Pattern(PatternFault {
+        place: 1,
+        kind: PatternKind::Scheme,
+    }));
+    let cases: [(&[&str], Status, &str, &str); 7] = [
+        (
+            &["match", "*://*.a.b/x*", "https://c.a.b/x?q=1"],
+            Status::Done,
+            "yes\n",
+            "",
+        ),
+        (
+            &["match", "*://*.a.b/x*", "http://xa.b/x"],
+            Status::No,
+            "no\n",
+            "",
+        ),
+        (
+            &["match", "ftp://a.b/", "http://a.b/"],
+            pattern,
+            "",
+            "wx: input refused: pattern 1 scheme\n",
+        ),
+        (
+            &["match", "<all_urls>", "::"],
+            Status::InputRefused(InputKind::Url),
+            "",
+            "wx: input refused: url\n",
+        ),
+        (&["match", "<all_urls>"], Status::Usage, "", USAGE),
+        (
+            &["frames", "s"],
+            Status::Done,
+            "0 2:{}\n1 1:1\nend\n",
+            "",
+        ),
+        (
+            &["frames", "t"],
+            Status::InputRefused(InputKind::Missing),
+            "",
+            "wx: input refused: missing\n",
+        ),
+    ];
+    for (words, status, on_out, on_err) in cases {
+        let frames = Vec::from_slice(alloc, b"\x02\x00\x00\x00{}\x01\x00\x00\x001")?;
+        let mut shelf = shelf_of(alloc, frames)?;
+        let mut out = sink_of(alloc, AMPLE);
+        let mut err = sink_of(alloc, AMPLE);
+        assert_eq!(rt;
+            answer(alloc, words, &mut shelf, &mut out, &mut err)?,
             status
         );
         assert_eq!(rt; str::from_utf8(&out.bytes), Ok(on_out));

@@ -64,6 +64,7 @@ written_all whole trouble bytes old new newer at n end w ends same =
   where
     in_all : IsSplit frame_limit (take at bytes ++ drop at bytes) w.texts (drop at bytes) → IsSplit frame_limit bytes w.texts (drop at bytes)
     in_all split = subst (λ (s : List ℕ). IsSplit frame_limit s w.texts (drop at bytes)) (take-append-drop at bytes) split
+
     split_of : (end : FramesEnd) → EndsBy (drop at bytes) end → IsSplit frame_limit bytes w.texts (drop at bytes)
     split_of Whole e =
         let all : take at bytes ≡ bytes = sym (append-nil (take at bytes)) ∙ ap (λ more. take at bytes ++ more) (sym e) ∙ take-append-drop at bytes in

@@ -5,6 +5,8 @@ mod frames;
 mod laws;
 mod matching;
 mod tell;
+#[cfg(test)]
+mod tests;
 mod top;
 mod verdict;
 

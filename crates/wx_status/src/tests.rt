@@ -42,11 +42,26 @@ fn lines(rt: HostRuntime) -> Result<(), Fail> {
     };
     let cases = [
         (read_fault_line(alloc, "a b")?, "wx: read fault: a b\n"),
-        (refusal_line(alloc, fault)?, "wx: scene refused: line 17: unbound\n"),
-        (input_line(alloc, InputKind::Missing)?, "wx: input refused: missing\n"),
-        (input_line(alloc, InputKind::Large)?, "wx: input refused: large\n"),
-        (input_line(alloc, PATTERN)?, "wx: input refused: pattern 8 host\n"),
-        (input_line(alloc, InputKind::Url)?, "wx: input refused: url\n"),
+        (
+            refusal_line(alloc, fault)?,
+            "wx: scene refused: line 17: unbound\n",
+        ),
+        (
+            input_line(alloc, InputKind::Missing)?,
+            "wx: input refused: missing\n",
+        ),
+        (
+            input_line(alloc, InputKind::Large)?,
+            "wx: input refused: large\n",
+        ),
+        (
+            input_line(alloc, PATTERN)?,
+            "wx: input refused: pattern 8 host\n",
+        ),
+        (
+            input_line(alloc, InputKind::Url)?,
+            "wx: input refused: url\n",
+        ),
     ];
     for (line, expected) in cases {
         assert_eq!(rt; line.as_str(), expected);
@@ -73,7 +88,10 @@ fn empty_text(rt: HostRuntime) -> Result<(), Fail> {
     for (text, status, writes) in cases {
         let mut out = failing(alloc)?;
         let mut err = failing(alloc)?;
-        assert_eq!(rt; tell_text(Status::No, text.as_bytes(), &mut out, &mut err), status);
+        assert_eq!(rt;
+            tell_text(Status::No, text.as_bytes(), &mut out, &mut err),
+            status
+        );
         assert_eq!(rt; out.writes, writes);
         assert_eq!(rt; err.writes, writes);
     }

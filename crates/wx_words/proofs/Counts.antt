@@ -137,8 +137,11 @@ match_right (pattern ∷ url ∷ []) all =
 match_right (one ∷ two ∷ three ∷ rest) all =
     let others = other_operands one (two ∷ three ∷ rest) all in
     let last = other_operands two (three ∷ rest) others in
-    inr (match_more one two three rest (operand_plain one (first_operand one (two ∷ three ∷ rest) all)) (operand_plain two (first_operand two (three ∷ rest) others))
-    (operand_plain three (first_operand three rest last)), refl)
+    inr (
+      match_more one two three rest (operand_plain one (first_operand one (two ∷ three ∷ rest) all)) (operand_plain two (first_operand two (three ∷ rest) others))
+          (operand_plain three (first_operand three rest last)),
+      refl,
+    )
 
 -- ---- how a reader's answer is taken
 

@@ -46,7 +46,7 @@ operand_walked rules held position word is = rw (is.dashes, is.long, is.short) r
 -- the faults of a walk that begins with an operand
 pub operand_faults : (s : Shape) (held : Held) (position : ℕ) (word : Text) (rest : List Text) → IsPlain word
     → walk_fault s [] (between held position) (word ∷ rest)
-        ≡ or_else (step_fault s position held value) (walk_fault s [] (to_positional s.rules (arg_by_index s.rules position) word (between held position) held) rest)
+    ≡ or_else (step_fault s position held value) (walk_fault s [] (to_positional s.rules (arg_by_index s.rules position) word (between held position) held) rest)
 unfolding walk_fault
 operand_faults s held position word rest is =
     ap₂ or_else (operand_turn s held position word is) (ap (λ (w : Walk). walk_fault s [] w rest) (operand_walked s.rules held position word is))

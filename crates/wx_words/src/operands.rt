@@ -26,9 +26,7 @@ fn are_all_operands(words: &[String]) -> bool
 fn are_all_of_run(words: &[String]) -> bool
     ensures { result ≡ list_all (λ word. forms.is_operand (string_bytes word) || forms.is_rounds (string_bytes word)) words.now }
 {
-    words
-        .iter()
-        .all(|word| is_operand(word.as_str()) || is_rounds(word.as_str()))
+    words.iter().all(|word| is_operand(word.as_str()) || is_rounds(word.as_str()))
 }
 
 /// Whether the words begin with this one.

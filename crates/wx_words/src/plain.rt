@@ -41,7 +41,10 @@ fn of_frames<'a>(found: &ArgMatches<'a>) -> Option<PlainCommand<'a>>
 }
 
 /// The command of words that begin with `match` and have operands behind it.
-fn match_command<'a>(alloc: Global, words: &'a [String]) -> Result<Option<PlainCommand<'a>>, NoMemory>
+fn match_command<'a>(
+    alloc: Global,
+    words: &'a [String],
+) -> Result<Option<PlainCommand<'a>>, NoMemory>
     requires { list_all forms.is_operand (drop 1 (map string_bytes words.now)) ≡ true }
     ensures { IfOk result (λ command. option_map command_view command ≡ forms.match_in (drop 1 (map string_bytes words.entry.now))) }
 {
@@ -58,7 +61,10 @@ fn match_command<'a>(alloc: Global, words: &'a [String]) -> Result<Option<PlainC
 }
 
 /// The command of words that begin with `frames` and have operands behind it.
-fn frames_command<'a>(alloc: Global, words: &'a [String]) -> Result<Option<PlainCommand<'a>>, NoMemory>
+fn frames_command<'a>(
+    alloc: Global,
+    words: &'a [String],
+) -> Result<Option<PlainCommand<'a>>, NoMemory>
     requires { list_all forms.is_operand (drop 1 (map string_bytes words.now)) ≡ true }
     ensures { IfOk result (λ command. option_map command_view command ≡ forms.frames_in (drop 1 (map string_bytes words.entry.now))) }
 {
@@ -76,7 +82,10 @@ fn frames_command<'a>(alloc: Global, words: &'a [String]) -> Result<Option<Plain
 
 /// The command that makes no run which the words ask for; other words ask for none. A word behind the first that begins
 /// with `-` and is not `-` alone is refused here, and the others are counted and read by `clap`.
-pub fn plain_command<'a>(alloc: Global, words: &'a [String]) -> Result<Option<PlainCommand<'a>>, NoMemory>
+pub fn plain_command<'a>(
+    alloc: Global,
+    words: &'a [String],
+) -> Result<Option<PlainCommand<'a>>, NoMemory>
     ensures { IfOk result (λ command. option_map command_view command ≡ forms.plain_command_of (map string_bytes words.entry.now)) }
 {
     if !are_operands(words) {

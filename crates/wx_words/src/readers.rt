@@ -58,8 +58,6 @@ pub(crate) fn read_run<'a>(alloc: Global, words: &'a [String]) -> Result<ArgMatc
     let rounds = Arg::new(alloc, "rounds")
         .long("rounds")
         .action(ArgAction::SetTrue);
-    let command = bare(alloc, "run")
-        .arg(rounds)?
-        .arg(wanted(alloc, "scene"))?;
+    let command = bare(alloc, "run").arg(rounds)?.arg(wanted(alloc, "scene"))?;
     command.try_get_matches_from(words)
 }

@@ -9,4 +9,4 @@ returns-in-Ok-refusal_line g c =
 
 pub returns-in-Ok : goal.returns-in-Ok
 returns-in-Ok g c =
-    read_fault_told _ c.in-ReadFault.file.now _ _ _ _ _ (ap verdict_view c.in-ReadFault.is) c.as_bytes.ensures.value c.in-Ok.ensures refl c.tell_line-in-Ok.ensures
+    read_fault_told _ c.in-ReadFault.file.now _ _ _ _ _ (ap verdict_view c.in-ReadFault.is) c.as_bytes.ensures.value c.in-Ok.ensures refl c.tell_line.ensures
