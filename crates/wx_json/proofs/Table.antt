@@ -140,11 +140,8 @@ says s x (wants low high n) a = false
 pub state_bounds : (s : ℕ) → is_state s ≡ true → (64 ≤ s) × (s < 128)
 unfolding is_state
 state_bounds s h = elim (or_cases _ _ h) [
-  | inl ab ↦ elim (or_cases _ _ ab) [
-    | inl a ↦ let p = and_parts (nat_le 0x41 s) (nat_le s 0x5A) a in let x = leb-true 0x41 s p.0 in let y = leb-true s 0x5A p.1 in (omega arith, omega arith)
-    | inr b ↦ let p = and_parts (nat_le 0x62 s) (nat_le s 0x6E) b in let x = leb-true 0x62 s p.0 in let y = leb-true s 0x6E p.1 in (omega arith, omega arith)
-  ]
-  | inr c ↦ let p = and_parts (nat_le 0x70 s) (nat_le s 0x7A) c in let x = leb-true 0x70 s p.0 in let y = leb-true s 0x7A p.1 in (omega arith, omega arith)
+  | inl a ↦ let p = and_parts (nat_le 0x41 s) (nat_le s 0x5A) a in let x = leb-true 0x41 s p.0 in let y = leb-true s 0x5A p.1 in (omega arith, omega arith)
+  | inr b ↦ let p = and_parts (nat_le 0x62 s) (nat_le s 0x7A) b in let x = leb-true 0x62 s p.0 in let y = leb-true s 0x7A p.1 in (omega arith, omega arith)
 ]
 
 settled-high : (s x : ℕ) → 64 ≤ x → settled s x ≡ x

@@ -8,9 +8,9 @@ use Rattle.wx_json.specs.Check.{Progress, running, failed, moved, advance, advan
 use Rattle.wx_json.specs.declared.JsonKind.{JsonKind}
 use Rattle.wx_json.specs.declared.JsonKind.TheVariants.{Syntax, Utf8}
 
--- A state is a letter, A to Z, b to n or p to z.
+-- A state is a letter, A to Z or b to z.
 unfoldable pub is_state : ℕ → Bool
-is_state s = is_between 0x41 0x5A s || is_between 0x62 0x6E s || is_between 0x70 0x7A s
+is_state s = is_between 0x41 0x5A s || is_between 0x62 0x7A s
 
 -- the modes of @ to O, P to _, ` to o and p to DEL (what is no state has the mode value)
 abbrev pub modes : List Mode

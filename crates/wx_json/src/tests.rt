@@ -60,6 +60,16 @@ fn numbers(rt: HostRuntime) -> Result<(), Fail> {
     judged(&rt, b"-", at(1, JsonKind::Ends));
     judged(&rt, b"1e", at(2, JsonKind::Ends));
     judged(&rt, b"1e+", at(3, JsonKind::Ends));
+    judged(
+        &rt,
+        b"[12345678901234567890.12345678901234567890e+12345678901234567890]",
+        Ok(()),
+    );
+    judged(
+        &rt,
+        b"[1234567890123456789012345678901234567890:]",
+        at(41, JsonKind::Syntax),
+    );
     Ok(())
 }
 
@@ -82,6 +92,11 @@ fn strings_and_white_space(rt: HostRuntime) -> Result<(), Fail> {
         &rt,
         b"[1,\n                                        \x0B2]",
         at(44, JsonKind::Syntax),
+    );
+    judged(
+        &rt,
+        b"{\"a\" \t\t\t\t\t\t\t\t\r\n\r\n\r\n\r\n    : \r\n\t                    {} \t\r\n                    }",
+        Ok(()),
     );
     for c in 0..0x20 {
         judged(&rt, &[b'"', c, b'"'], at(1, JsonKind::Syntax));
