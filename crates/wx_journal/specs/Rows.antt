@@ -1,5 +1,5 @@
 -- Worked examples of a journal's text.
-use Rattle.std.specs.Prelude.{◌≡◌, [], reverse, codes}
+use Rattle.std.specs.Prelude.{◌≡◌, ◌++◌, [], reverse, codes}
 use Rattle.wx_machine.specs.declared.world.World.{World}
 use Rattle.wx_machine.specs.Answers.{made_of}
 use Rattle.wx_machine.specs.Rows.{one_connection_calls, first_reply_calls}
@@ -15,4 +15,5 @@ OneConnectionOnePostText =
 abbrev pub FirstReplyWinsText : Type 0
 FirstReplyWinsText =
     (world : World) → journal_text (reverse (made_of world first_reply_calls []))
-    ≡ codes "wx journal 1 chrome\nc0 enter page aaaaaaaaaaaaaaaaaaaaaaaaaaaaaaaa 2:/s -> context 0\nc1 enter page aaaaaaaaaaaaaaaaaaaaaaaaaaaaaaaa 2:/p -> context 1\nc1 listen -m-- -> done\nc2 enter page aaaaaaaaaaaaaaaaaaaaaaaaaaaaaaaa 2:/q -> context 2\nc2 listen -m-- -> done\nc0 send own 4:\"hi\" -> request 0\nc1 take -> asked 0 5\nc2 take -> asked 0 5\nc1 reply 0 1:1 -> first\nc2 reply 0 1:2 -> late\nc0 take -> replied 0 8\nc1 leave -> done\nc2 decline 0 -> late\nc0 leave -> done\nc2 leave -> done\n"
+    ≡ codes "wx journal 1 chrome\nc0 enter page aaaaaaaaaaaaaaaaaaaaaaaaaaaaaaaa 2:/s -> context 0\nc1 enter page aaaaaaaaaaaaaaaaaaaaaaaaaaaaaaaa 2:/p -> context 1\nc1 listen -m-- -> done\nc2 enter page aaaaaaaaaaaaaaaaaaaaaaaaaaaaaaaa 2:/q -> context 2\nc2 listen -m-- -> done\n"
+    ++ codes "c0 send own 4:\"hi\" -> request 0\nc1 take -> asked 0 5\nc2 take -> asked 0 5\nc1 reply 0 1:1 -> first\nc2 reply 0 1:2 -> late\nc0 take -> replied 0 8\nc1 leave -> done\nc2 decline 0 -> late\nc0 leave -> done\nc2 leave -> done\n"
