@@ -2,3 +2,5 @@ pub mod History
 pub mod Steps
 pub mod Turn
 pub mod Cursors
+pub mod Asked
+pub mod Performed
