@@ -1,2 +1,4 @@
 pub mod ActLemmas
+pub mod QueuedLemmas
 pub mod HistoryLemmas
+pub mod TextLemmas

@@ -1,4 +1,4 @@
-ghost use Rattle.std.specs.Prelude.{◌≡◌, ◌+◌, ◌<◌, ◌&&◌, not, nat_le, IfOk, MatchOption};
+ghost use Rattle.std.specs.Prelude.{◌≡◌, ◌+◌, ◌<◌, ◌≤◌, ◌&&◌, not, nat_le, IfOk, MatchOption};
 ghost use Rattle.wx_script.specs.Ends.{entry_limit};
 ghost use Rattle.wx_script.specs.Places.{at_start, left, place_behind};
 ghost use Rattle.wx_endpoint.specs.Turn.{is_left};
@@ -38,12 +38,15 @@ pub struct Cursor<'a> {
 }
 
 impl<'a> Model for Cursor<'a> {
+    ghost use Rattle.std.specs.Prelude.{◌≤◌};
     ghost use Rattle.wx_endpoint.specs.Turn.{CursorState};
     ghost use Rattle.wx_endpoint.specs.Cursors.{place_at};
 
     ghost Value = { CursorState };
 
     ghost view = { λ cursor. record { script = cursor.script.now; place = place_at cursor.position cursor.channels.items; made = cursor.made } };
+
+    ghost invariant = { λ cursor. cursor.made ≤ 65536 };
 }
 
 impl<'a> Cursor<'a> {
@@ -79,7 +82,8 @@ impl<'a> Cursor<'a> {
 
     /// What comes next, where the script has not ended.
     pub(crate) fn step(&self) -> Option<Step<'a>>
-        ensures { MatchOption result (self.now.place ≡ left) (λ step. IsStepAt self.now.place step) }
+        ensures step { MatchOption result (self.now.place ≡ left) (λ step. IsStepAt self.now.place step) }
+        ensures limit { self.now.made ≤ entry_limit }
     {
         match self.position {
             Position::Unbegun(rest) => match first_act(&self.channels, rest) {

@@ -24,14 +24,14 @@ fn connect<D: Desk>(desk: &mut D, target: Target, name: &Utf8Text) -> Result<Ans
     }
 }
 
-/// One `post` of a copy of the text.
-fn post<D: Desk>(desk: &mut D, k: ChannelNo, text: &JsonText) -> Result<Answer, NoMemory>
+/// One `post`. The text is let go where memory was refused.
+fn post_text<D: Desk>(desk: &mut D, k: ChannelNo, text: JsonText) -> Result<Answer, NoMemory>
     requires { IsSound (D.state desk.old) }
-    ensures made { IfOk result (λ answer. MakesOne (D.state desk.old) (D.state desk.new) (Call.Post k text.now) answer) }
+    ensures made { IfOk result (λ answer. MakesOne (D.state desk.old) (D.state desk.new) (Call.Post k text) answer) }
     ensures refused { OnErr result (MakesNone (D.state desk.old) (D.state desk.new)) }
     ensures sound { IsSound (D.state desk.new) }
 {
-    match desk.post(k, text.try_clone()?) {
+    match desk.post(k, text) {
         Ok(answer) => Ok(answer),
         Err(_) => Err(NoMemory),
     }
@@ -47,7 +47,7 @@ fn make<D: Desk>(desk: &mut D, call: AskedCall<'_>) -> Result<Answer, NoMemory>
     match call {
         AskedCall::Listen(l) => desk.listen(l),
         AskedCall::Connect(target, name) => connect(desk, target, name),
-        AskedCall::Post(k, text) => post(desk, k, text),
+        AskedCall::Post(k, text) => post_text(desk, k, text.try_clone()?),
         AskedCall::Disconnect(k) => desk.disconnect(k),
         AskedCall::Take => desk.take(),
     }
@@ -65,10 +65,7 @@ fn reply<D: Desk>(desk: &mut D, k: ChannelNo, e: EntryNo) -> Result<Answer, NoMe
     let Some(text) = copy else {
         unreachable!();
     };
-    match desk.post(k, text) {
-        Ok(answer) => Ok(answer),
-        Err(_) => Err(NoMemory),
-    }
+    post_text(desk, k, text)
 }
 
 /// Makes the entry of a step, or none where the step waits and nothing is pending.
