@@ -1,5 +1,5 @@
 -- Histories behind what others do, and behind one own entry.
-use Rattle.std.proofs.Common.{◌≡◌, ℕ, ◌+◌, List, [], ◌∷◌, ◌++◌, map, Bool, true, false, cond, arith, ◌≤◌, not, Some, None, Ok, Err, IfOk, OnErr, refl, ap, sym, ◌∙◌, subst, append_assoc}
+use Rattle.std.proofs.Common.{◌≡◌, ℕ, ◌+◌, List, [], ◌∷◌, ◌++◌, Bool, true, false, cond, arith, ◌≤◌, not, Some, Ok, Err, IfOk, OnErr, refl, ap, sym, ◌∙◌, append_assoc}
 use Rattle.std.proofs.lemmas.List.{map-append}
 use Rattle.wx_id.specs.declared.numbers.ContextNo.{ContextNo}
 use Rattle.std.specs.Prelude.{Result, nat_le, ◌&&◌}
@@ -12,7 +12,7 @@ use Rattle.wx_machine.specs.declared.entries.Answer.{Answer}
 use Rattle.wx_machine.specs.declared.entries.Entry.{Entry}
 use Rattle.wx_machine.specs.Carried.{text_of}
 use Rattle.wx_script.specs.declared.script.Command.{Command}
-use Rattle.wx_script.specs.Places.{Place, outside, within, left, unbegun, echoing, answering, or_ends, asks_first, asks_answer, next_at, place_behind}
+use Rattle.wx_script.specs.Places.{Place, within, unbegun, echoing, answering, or_ends, asks_first, asks_answer, next_at, place_behind}
 use Rattle.wx_script.specs.Carries.{MayCome}
 use Rattle.wx_endpoint.specs.declared.asked.Step.{Step}
 use Rattle.wx_endpoint.specs.declared.asked.Step.TheVariants.{Begin, Leave, Hear, Reply}

@@ -1,5 +1,5 @@
 -- The entry of a message that is pending carries a text.
-use Rattle.std.proofs.Common.{◌≡◌, ℕ, zero, suc, List, [], ◌∷◌, ◌++◌, length, map, Bool, true, false, cond, Some, None, arith, refl, ap, sym, ◌∙◌, subst}
+use Rattle.std.proofs.Common.{◌≡◌, ℕ, zero, suc, List, [], ◌∷◌, ◌++◌, length, map, Bool, true, false, cond, Some, None, arith, refl, ap, ◌∙◌, subst}
 use Rattle.std.specs.Prelude.{Option, reverse, slice_get, filter, flat_map}
 use Rattle.std.proofs.lemmas.List.{reverse-append, length-reverse}
 use Rattle.wx_id.specs.declared.numbers.ContextNo.{ContextNo}
@@ -12,15 +12,14 @@ use Rattle.wx_machine.specs.declared.world.World.{World}
 use Rattle.wx_machine.specs.declared.entries.Who.{Who}
 use Rattle.wx_machine.specs.declared.entries.Who.TheVariants.{Context as ByContext}
 use Rattle.wx_machine.specs.declared.entries.Call.{Call}
-use Rattle.wx_machine.specs.declared.entries.Call.TheVariants.{Enter, Listen, Leave, Connect, Post, Disconnect, Take}
+use Rattle.wx_machine.specs.declared.entries.Call.TheVariants.{Leave, Post, Disconnect, Take}
 use Rattle.wx_machine.specs.declared.entries.Answer.{Answer}
-use Rattle.wx_machine.specs.declared.entries.Answer.TheVariants.{Entered, Channel, Event as Told, Done, Gone, NoReceiver, Posted, NoPort, PortClosed, TooLong, NoEffect, Empty}
+use Rattle.wx_machine.specs.declared.entries.Answer.TheVariants.{Event as Told, Gone, Posted}
 use Rattle.wx_machine.specs.declared.entries.Entry.{Entry}
 use Rattle.wx_machine.specs.Answers.{answer_after, told_or_empty}
 use Rattle.wx_machine.specs.Carried.{text_in, text_carried, text_of}
-use Rattle.wx_machine.specs.Channels.{Ends, opens, channels, end_in}
 use Rattle.wx_machine.specs.Contexts.{is_live}
-use Rattle.wx_machine.specs.Events.{on, is_receiving, goes_to, connected, message, disconnected_on, disconnected, tells, marked, delivered, queued, is_waiting, pending, first}
+use Rattle.wx_machine.specs.Events.{on, message, disconnected_on, disconnected, tells, marked, delivered, queued, is_waiting, pending, first}
 
 -- ---- texts stay
 
@@ -103,8 +102,8 @@ delivered_carried e past c =
     let P : EventKind → Type 0 = λ kind. IsCarried (e ∷ past) n kind in
     Every-map (λ (v : Event). IsCarried (e ∷ past) v.entry v.kind) (marked (length past)) (tells past e c)
     (Every-append P _ _
-      (Every-append P _ _ (Every-on P _ (Connected _) tt) (messages_posted P past e.who e.call e.answer c (λ k text is. (text, text_newest e past ∙ is))))
-      (ends_told P past e e.call c (λ k. tt)))
+    (Every-append P _ _ (Every-on P _ (Connected _) tt) (messages_posted P past e.who e.call e.answer c (λ k text is. (text, text_newest e past ∙ is))))
+    (ends_told P past e e.call c (λ k. tt)))
 
 queued_carried : (past : List Entry) (c : ContextNo) → Every (λ (v : Event). IsCarried past v.entry v.kind) (queued past c)
 queued_carried [] c = tt

@@ -4,3 +4,4 @@ pub mod Turn
 pub mod Cursors
 pub mod Asked
 pub mod Performed
+pub mod BrokerDesks

@@ -1,4 +1,4 @@
-use Rattle.std.proofs.Common.{◌≡◌, ◌<◌, arith, Some, None, sym, ap, ◌∙◌}
+use Rattle.std.proofs.Common.{◌≡◌, ◌<◌, arith, None, sym, ap, ◌∙◌}
 use Rattle.wx_script.specs.Places.{begins_with}
 use Rattle.wx_endpoint.specs.Cursors.{set_to, act_in}
 use Rattle.wx_endpoint.specs.Asked.{begun_by}
