@@ -6,10 +6,10 @@ ghost use Rattle.wx_broker.specs.Carried.{is_event};
 ghost use Rattle.wx_broker.specs.Steps.{Appends, Stays};
 
 use crate::answers;
-use crate::carried::{entered, port_name, posted};
+use crate::carried::{entered, port_name, posted, replied, sent};
 use std::alloc::Global;
 use std::marker::Model;
-use wx_id::{ChannelNo, ContextNo, NoMemory, Utf8Text};
+use wx_id::{ChannelNo, ContextNo, NoMemory, RequestNo, Utf8Text};
 use wx_journal::Journal;
 use wx_machine::{Answer, Call, Context, Entry, JsonText, Listens, Target, Who, World};
 use wx_walks::contexts;
@@ -166,6 +166,69 @@ impl Broker {
         let e = Entry {
             who: Who::Context(c),
             call: Call::Disconnect(k),
+            answer,
+        };
+        match self.journal.push(e) {
+            Ok(()) => Ok(answer),
+            Err(_) => Err(NoMemory),
+        }
+    }
+
+    /// Context c sends a message to a target, and asks for one reply (`runtime.sendMessage`). The message comes
+    /// back where memory was refused.
+    pub fn send(&mut self, c: ContextNo, target: Target, text: JsonText) -> Result<Answer, JsonText>
+        requires { c.0 < contexts (reverse self.old.entries) }
+        ensures ok { IfOk result (λ a. Appends self.old self.new (Who.Context c) (Call.Send target text) a) }
+        ensures err { OnErr result (Stays self.old self.new) }
+        ensures returned { IfErr result (λ back. back ≡ text) }
+        ensures room { 0 < self.old.spare → IsOk result }
+        ensures spare { self.old.spare ≤ self.new.spare + 1 }
+    {
+        let answer = answers::send(self.journal.entries(), c, target, &text);
+        let e = Entry {
+            who: Who::Context(c),
+            call: Call::Send(target, text),
+            answer,
+        };
+        match self.journal.push(e) {
+            Ok(()) => Ok(answer),
+            Err(e) => Err(sent(e)),
+        }
+    }
+
+    /// Context c replies to request r. The message comes back where memory was refused.
+    pub fn reply(&mut self, c: ContextNo, r: RequestNo, text: JsonText) -> Result<Answer, JsonText>
+        requires { c.0 < contexts (reverse self.old.entries) }
+        ensures ok { IfOk result (λ a. Appends self.old self.new (Who.Context c) (Call.Reply r text) a) }
+        ensures err { OnErr result (Stays self.old self.new) }
+        ensures returned { IfErr result (λ back. back ≡ text) }
+        ensures room { 0 < self.old.spare → IsOk result }
+        ensures spare { self.old.spare ≤ self.new.spare + 1 }
+    {
+        let answer = answers::reply(self.journal.entries(), c, r, &text);
+        let e = Entry {
+            who: Who::Context(c),
+            call: Call::Reply(r, text),
+            answer,
+        };
+        match self.journal.push(e) {
+            Ok(()) => Ok(answer),
+            Err(e) => Err(replied(e)),
+        }
+    }
+
+    /// Context c says that it will not reply to request r.
+    pub fn decline(&mut self, c: ContextNo, r: RequestNo) -> Result<Answer, NoMemory>
+        requires { c.0 < contexts (reverse self.old.entries) }
+        ensures ok { IfOk result (λ a. Appends self.old self.new (Who.Context c) (Call.Decline r) a) }
+        ensures err { OnErr result (Stays self.old self.new) }
+        ensures room { 0 < self.old.spare → IsOk result }
+        ensures spare { self.old.spare ≤ self.new.spare + 1 }
+    {
+        let answer = answers::decline(self.journal.entries(), c, r);
+        let e = Entry {
+            who: Who::Context(c),
+            call: Call::Decline(r),
             answer,
         };
         match self.journal.push(e) {

@@ -6,3 +6,4 @@ pub mod DraftLemmas
 pub mod ReadingLemmas
 pub mod FaultLemmas
 pub mod RoomLemmas
+pub mod LeftLemmas

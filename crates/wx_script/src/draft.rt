@@ -8,7 +8,7 @@ ghost use Rattle.wx_script.specs.Names.{has_extension, has_endpoint, id_under, p
 ghost use Rattle.wx_script.specs.Spelling.{IsNamedAct, IsLine};
 ghost use Rattle.wx_script.specs.View.{command_view, line_view};
 
-use crate::line::{NamedAct, Line};
+use crate::line::{Line, NamedAct};
 use crate::scene::{SceneEndpoint, SceneExtension, SceneKind};
 use crate::script::{Act, Command, Script, Var};
 use std::alloc::{AllocError, AllocFailed, Global};

@@ -2,6 +2,7 @@
 #![tactic(auto)]
 
 mod draft;
+pub mod endings;
 pub mod laws;
 mod line;
 mod reading;
