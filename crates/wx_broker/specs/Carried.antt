@@ -1,7 +1,7 @@
 -- What a call carries, and an answer that tells an event.
 use Rattle.std.specs.Prelude.{ℕ, List, Bool, true, false}
 use Rattle.wx_machine.specs.declared.entries.Call.{Call}
-use Rattle.wx_machine.specs.declared.entries.Call.TheVariants.{Connect, Post}
+use Rattle.wx_machine.specs.declared.entries.Call.TheVariants.{Connect, Post, Send, Reply}
 use Rattle.wx_machine.specs.declared.entries.Answer.{Answer}
 use Rattle.wx_machine.specs.declared.entries.Answer.TheVariants.{Event as Told}
 
@@ -13,6 +13,14 @@ abbrev pub is_post : Call → Bool
 is_post (Post k text) = true
 is_post _ = false
 
+abbrev pub is_send : Call → Bool
+is_send (Send target text) = true
+is_send _ = false
+
+abbrev pub is_reply : Call → Bool
+is_reply (Reply r text) = true
+is_reply _ = false
+
 -- a fact of the port name that a connect carries
 abbrev pub IfConnect : Call → (List ℕ → Type 0) → Type 0
 IfConnect (Connect target name) P = P name
@@ -22,6 +30,16 @@ IfConnect _ P = Unit {0}
 abbrev pub IfPost : Call → (List ℕ → Type 0) → Type 0
 IfPost (Post k text) P = P text
 IfPost _ P = Unit {0}
+
+-- a fact of the message that a send carries
+abbrev pub IfSend : Call → (List ℕ → Type 0) → Type 0
+IfSend (Send target text) P = P text
+IfSend _ P = Unit {0}
+
+-- a fact of the message that a reply carries
+abbrev pub IfReply : Call → (List ℕ → Type 0) → Type 0
+IfReply (Reply r text) P = P text
+IfReply _ P = Unit {0}
 
 -- the answer tells an event
 abbrev pub is_event : Answer → Bool

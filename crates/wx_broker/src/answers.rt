@@ -1,16 +1,14 @@
 //! The machine's answers, found by walking the journal.
 ghost use Rattle.std.specs.Prelude.{◌≡◌, cond, length, reverse};
-ghost use Rattle.wx_machine.specs.Contexts.{is_live, receivers_of, Connection};
+ghost use Rattle.wx_machine.specs.Contexts.{is_live, receivers_of};
 ghost use Rattle.wx_machine.specs.Channels.{channels, channel, end_in, is_closed};
+ghost use Rattle.wx_machine.specs.Requests.{requests, request, is_asked};
 ghost use Rattle.wx_machine.specs.Events.{pending, first};
-ghost use Rattle.wx_machine.specs.Answers.{at_end, told_or_empty, where_heard, where_short, longest};
+ghost use Rattle.wx_machine.specs.Answers.{at_end, on_request, is_late, told_or_empty, where_heard, where_short};
 
-use wx_id::{ChannelNo, ContextNo, End};
-use wx_machine::{Answer, Entry, JsonText, Target};
-use wx_walks::{channels, closing, contexts, events};
-
-/// The longest text that is passed on, in bytes.
-const LONGEST: u64 = 67_108_864;
+use wx_id::{ChannelNo, ContextNo, End, RequestNo};
+use wx_machine::{Answer, Entry, JsonText, LONGEST, Sort, Target};
+use wx_walks::{channels, closing, contexts, events, requests};
 
 /// The answer to a call that needs only a live caller.
 pub fn done_if_live(entries: &[Entry], c: ContextNo) -> Answer
@@ -25,12 +23,12 @@ pub fn done_if_live(entries: &[Entry], c: ContextNo) -> Answer
 
 /// The answer to a connect.
 pub fn connect(entries: &[Entry], c: ContextNo, target: Target) -> Answer
-    ensures { result ≡ cond (is_live (reverse entries.now) c) (where_heard (receivers_of (reverse entries.now) c target Connection) (Answer.Channel (record { 0 = length (channels (reverse entries.now)) }))) Answer.Gone }
+    ensures { result ≡ cond (is_live (reverse entries.now) c) (where_heard (receivers_of (reverse entries.now) c target Sort.Connection) (Answer.Channel (record { 0 = length (channels (reverse entries.now)) }))) Answer.Gone }
 {
     if !contexts::is_live(entries, c) {
         return Answer::Gone;
     }
-    if contexts::has_receiver(entries, c, target) {
+    if contexts::has_receiver(entries, c, target, Sort::Connection) {
         Answer::Channel(ChannelNo(channels::count(entries)))
     } else {
         Answer::NoReceiver
@@ -63,6 +61,39 @@ pub fn disconnect(entries: &[Entry], c: ContextNo, k: ChannelNo) -> Answer
     on_channel(entries, c, k, Answer::NoEffect, Answer::Done)
 }
 
+/// The answer to a send.
+pub fn send(entries: &[Entry], c: ContextNo, target: Target, text: &JsonText) -> Answer
+    ensures { result ≡ cond (is_live (reverse entries.now) c) (where_heard (receivers_of (reverse entries.now) c target Sort.Message) (where_short text.now (Answer.Request (record { 0 = length (requests (reverse entries.now)) })))) Answer.Gone }
+{
+    if !contexts::is_live(entries, c) {
+        return Answer::Gone;
+    }
+    if !contexts::has_receiver(entries, c, target, Sort::Message) {
+        return Answer::NoReceiver;
+    }
+    where_short(text, Answer::Request(RequestNo(requests::count(entries))))
+}
+
+/// The answer to a reply.
+pub fn reply(entries: &[Entry], c: ContextNo, r: RequestNo, text: &JsonText) -> Answer
+    ensures { result ≡ cond (is_live (reverse entries.now) c) (on_request (is_asked (request (reverse entries.now) r.0) c) (is_late (reverse entries.now) r.0 c) (where_short text.now Answer.First)) Answer.Gone }
+{
+    if !contexts::is_live(entries, c) {
+        return Answer::Gone;
+    }
+    on_request(entries, c, r, where_short(text, Answer::First))
+}
+
+/// The answer to a decline.
+pub fn decline(entries: &[Entry], c: ContextNo, r: RequestNo) -> Answer
+    ensures { result ≡ cond (is_live (reverse entries.now) c) (on_request (is_asked (request (reverse entries.now) r.0) c) (is_late (reverse entries.now) r.0 c) Answer.Done) Answer.Gone }
+{
+    if !contexts::is_live(entries, c) {
+        return Answer::Gone;
+    }
+    on_request(entries, c, r, Answer::Done)
+}
+
 /// The answer to a take.
 pub fn take(entries: &[Entry], c: ContextNo) -> Answer
     ensures { result ≡ cond (is_live (reverse entries.now) c) (told_or_empty (first (pending (reverse entries.now) c))) Answer.Gone }
@@ -92,6 +123,19 @@ fn on_channel(
         on_closed
     } else {
         on_open
+    }
+}
+
+/// The answer on a request: to one whom it was not sent to, where it is too late, and else.
+fn on_request(entries: &[Entry], c: ContextNo, r: RequestNo, answer: Answer) -> Answer
+    ensures { result ≡ on_request (is_asked (request (reverse entries.now) r.0) c) (is_late (reverse entries.now) r.0 c) answer }
+{
+    if !requests::is_asked(entries, r, c) {
+        Answer::NotYours
+    } else if requests::is_settled(entries, r) || requests::has_declined(entries, r, c) {
+        Answer::Late
+    } else {
+        answer
     }
 }
 

@@ -1,14 +1,15 @@
 ghost use Rattle.std.specs.Prelude.{◌≡◌, ◌+◌, ◌<◌, ◌≤◌, IsOk, reverse, [], OnErr, IfOk, IfErr};
 ghost use Rattle.wx_machine.specs.Contexts.{contexts};
 ghost use Rattle.wx_machine.specs.Answers.{answer_of, IsLegal};
+ghost use Rattle.wx_machine.specs.Events.{has_pending};
 ghost use Rattle.wx_broker.specs.Carried.{is_event};
 ghost use Rattle.wx_broker.specs.Steps.{Appends, Stays};
 
 use crate::answers;
-use crate::carried::{entered, port_name, posted};
+use crate::carried::{entered, port_name, posted, replied, sent};
 use std::alloc::Global;
 use std::marker::Model;
-use wx_id::{ChannelNo, ContextNo, NoMemory, Utf8Text};
+use wx_id::{ChannelNo, ContextNo, NoMemory, RequestNo, Utf8Text};
 use wx_journal::Journal;
 use wx_machine::{Answer, Call, Context, Entry, JsonText, Listens, Target, Who, World};
 use wx_walks::contexts;
@@ -173,6 +174,69 @@ impl Broker {
         }
     }
 
+    /// Context c sends a message to a target, and asks for one reply (`runtime.sendMessage`). The message comes
+    /// back where memory was refused.
+    pub fn send(&mut self, c: ContextNo, target: Target, text: JsonText) -> Result<Answer, JsonText>
+        requires { c.0 < contexts (reverse self.old.entries) }
+        ensures ok { IfOk result (λ a. Appends self.old self.new (Who.Context c) (Call.Send target text) a) }
+        ensures err { OnErr result (Stays self.old self.new) }
+        ensures returned { IfErr result (λ back. back ≡ text) }
+        ensures room { 0 < self.old.spare → IsOk result }
+        ensures spare { self.old.spare ≤ self.new.spare + 1 }
+    {
+        let answer = answers::send(self.journal.entries(), c, target, &text);
+        let e = Entry {
+            who: Who::Context(c),
+            call: Call::Send(target, text),
+            answer,
+        };
+        match self.journal.push(e) {
+            Ok(()) => Ok(answer),
+            Err(e) => Err(sent(e)),
+        }
+    }
+
+    /// Context c replies to request r. The message comes back where memory was refused.
+    pub fn reply(&mut self, c: ContextNo, r: RequestNo, text: JsonText) -> Result<Answer, JsonText>
+        requires { c.0 < contexts (reverse self.old.entries) }
+        ensures ok { IfOk result (λ a. Appends self.old self.new (Who.Context c) (Call.Reply r text) a) }
+        ensures err { OnErr result (Stays self.old self.new) }
+        ensures returned { IfErr result (λ back. back ≡ text) }
+        ensures room { 0 < self.old.spare → IsOk result }
+        ensures spare { self.old.spare ≤ self.new.spare + 1 }
+    {
+        let answer = answers::reply(self.journal.entries(), c, r, &text);
+        let e = Entry {
+            who: Who::Context(c),
+            call: Call::Reply(r, text),
+            answer,
+        };
+        match self.journal.push(e) {
+            Ok(()) => Ok(answer),
+            Err(e) => Err(replied(e)),
+        }
+    }
+
+    /// Context c says that it will not reply to request r.
+    pub fn decline(&mut self, c: ContextNo, r: RequestNo) -> Result<Answer, NoMemory>
+        requires { c.0 < contexts (reverse self.old.entries) }
+        ensures ok { IfOk result (λ a. Appends self.old self.new (Who.Context c) (Call.Decline r) a) }
+        ensures err { OnErr result (Stays self.old self.new) }
+        ensures room { 0 < self.old.spare → IsOk result }
+        ensures spare { self.old.spare ≤ self.new.spare + 1 }
+    {
+        let answer = answers::decline(self.journal.entries(), c, r);
+        let e = Entry {
+            who: Who::Context(c),
+            call: Call::Decline(r),
+            answer,
+        };
+        match self.journal.push(e) {
+            Ok(()) => Ok(answer),
+            Err(_) => Err(NoMemory),
+        }
+    }
+
     /// Context c takes the first event that is pending for it.
     pub fn take(&mut self, c: ContextNo) -> Result<Answer, NoMemory>
         requires { c.0 < contexts (reverse self.old.entries) }
@@ -196,7 +260,8 @@ impl Broker {
     /// Whether a take of context c would now be answered with an event.
     pub fn ready(&self, c: ContextNo) -> bool
         requires { c.0 < contexts (reverse self.now.entries) }
-        ensures { result ≡ is_event (answer_of self.now.world self.now.entries (Who.Context c) Call.Take) }
+        ensures event { result ≡ is_event (answer_of self.now.world self.now.entries (Who.Context c) Call.Take) }
+        ensures pending { result ≡ has_pending (reverse self.now.entries) c }
     {
         matches!(answers::take(self.journal.entries(), c), Answer::Event(_))
     }

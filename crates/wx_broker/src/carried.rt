@@ -1,7 +1,7 @@
 //! What an entry that was not kept gives back to the caller.
 ghost use Rattle.std.specs.Prelude.{◌≡◌, IsTrue};
 ghost use Rattle.wx_machine.specs.Contexts.{is_enter};
-ghost use Rattle.wx_broker.specs.Carried.{is_connect, is_post, IfConnect, IfPost};
+ghost use Rattle.wx_broker.specs.Carried.{is_connect, is_post, is_send, is_reply, IfConnect, IfPost, IfSend, IfReply};
 
 use wx_id::Utf8Text;
 use wx_machine::{Call, Context, Entry, JsonText};
@@ -35,6 +35,28 @@ pub fn posted(e: Entry) -> JsonText
 {
     match e.call {
         Call::Post(_, text) => text,
+        _ => unreachable!(),
+    }
+}
+
+/// The message in an entry that sends.
+pub fn sent(e: Entry) -> JsonText
+    requires { IsTrue (is_send e.call) }
+    ensures { IfSend e.call (λ text. result ≡ text) }
+{
+    match e.call {
+        Call::Send(_, text) => text,
+        _ => unreachable!(),
+    }
+}
+
+/// The message in an entry that replies.
+pub fn replied(e: Entry) -> JsonText
+    requires { IsTrue (is_reply e.call) }
+    ensures { IfReply e.call (λ text. result ≡ text) }
+{
+    match e.call {
+        Call::Reply(_, text) => text,
         _ => unreachable!(),
     }
 }

@@ -2,7 +2,7 @@ use crate::Broker;
 use std::alloc::Global;
 use std::process::Abort;
 use std::test::Fail;
-use wx_id::{ChannelNo, ContextNo, EntryNo, Event, EventKind, ExtensionId, Utf8Text};
+use wx_id::{ChannelNo, ContextNo, EntryNo, Event, EventKind, ExtensionId, RequestNo, Utf8Text};
 use wx_machine::{Answer, Context, JsonText, Listens, PagePath, Target, World};
 
 /// A call of a worked example.
@@ -10,9 +10,13 @@ use wx_machine::{Answer, Context, JsonText, Listens, PagePath, Target, World};
 enum Step {
     Enter(&'static str),
     Listen,
+    ListenToMessages,
     Connect,
     Post(u8),
     Disconnect,
+    Send(&'static str),
+    Reply(u8),
+    Decline,
     Take,
     Leave,
 }
@@ -24,7 +28,16 @@ const TO_CONNECTIONS: Listens = Listens {
     external_message: false,
 };
 
+const TO_MESSAGES: Listens = Listens {
+    connect: false,
+    message: true,
+    external_connect: false,
+    external_message: false,
+};
+
 const CHANNEL: ChannelNo = ChannelNo(0);
+
+const REQUEST: RequestNo = RequestNo(0);
 
 fn page(alloc: Global, path: &str) -> Option<Context> {
     let ext = ExtensionId::read(b"aaaaaaaaaaaaaaaaaaaaaaaaaaaaaaaa").ok()?;
@@ -37,7 +50,11 @@ fn is_ready(broker: &Broker, c: u64) -> bool {
     c < broker.contexts() && broker.ready(ContextNo(c))
 }
 
-/// Makes the call of context c, on the first channel, and gives its answer.
+fn json(alloc: Global, bytes: &[u8]) -> Option<JsonText> {
+    JsonText::new(Vec::from_slice(alloc, bytes).ok()?).ok()
+}
+
+/// Makes the call of context c, on the first channel or request, and gives its answer.
 fn make(broker: &mut Broker, alloc: Global, c: u64, step: &Step) -> Option<Answer> {
     if let Step::Enter(path) = step {
         let c = broker.enter(page(alloc, path)?).ok()?;
@@ -50,16 +67,18 @@ fn make(broker: &mut Broker, alloc: Global, c: u64, step: &Step) -> Option<Answe
     match step {
         Step::Enter(_) => None,
         Step::Listen => broker.listen(c, TO_CONNECTIONS).ok(),
+        Step::ListenToMessages => broker.listen(c, TO_MESSAGES).ok(),
         Step::Connect => {
             let name = Utf8Text::new(alloc, "").ok()?;
             broker.connect(c, Target::Own, name).ok()
         }
-        Step::Post(digit) => {
-            let digits = Vec::from_slice(alloc, &[*digit]).ok()?;
-            let text = JsonText::new(digits).ok()?;
-            broker.post(c, CHANNEL, text).ok()
-        }
+        Step::Post(digit) => broker.post(c, CHANNEL, json(alloc, &[*digit])?).ok(),
         Step::Disconnect => broker.disconnect(c, CHANNEL).ok(),
+        Step::Send(text) => broker
+            .send(c, Target::Own, json(alloc, text.as_bytes())?)
+            .ok(),
+        Step::Reply(digit) => broker.reply(c, REQUEST, json(alloc, &[*digit])?).ok(),
+        Step::Decline => broker.decline(c, REQUEST).ok(),
         Step::Take => broker.take(c).ok(),
         Step::Leave => broker.leave(c).ok(),
     }
@@ -100,6 +119,18 @@ fn message(entry: u64) -> Answer {
 
 fn disconnected(entry: u64) -> Answer {
     event(entry, EventKind::Disconnected(CHANNEL))
+}
+
+fn asked(entry: u64) -> Answer {
+    event(entry, EventKind::Asked(REQUEST))
+}
+
+fn replied(entry: u64) -> Answer {
+    event(entry, EventKind::Replied(REQUEST))
+}
+
+fn closed(entry: u64) -> Answer {
+    event(entry, EventKind::Closed(REQUEST))
 }
 
 #[test]
@@ -235,6 +266,130 @@ fn worked_examples(rt: HostRuntime) -> Result<(), Fail> {
     Ok(())
 }
 
+#[test]
+fn worked_requests(rt: HostRuntime) -> Result<(), Fail> {
+    let _ = play(
+        &rt,
+        rt.alloc(),
+        "first reply wins",
+        &[
+            (0, Step::Enter("/s"), entered(0)),
+            (1, Step::Enter("/p"), entered(1)),
+            (1, Step::ListenToMessages, Answer::Done),
+            (2, Step::Enter("/q"), entered(2)),
+            (2, Step::ListenToMessages, Answer::Done),
+            (0, Step::Send("\"hi\""), Answer::Request(REQUEST)),
+            (1, Step::Take, asked(5)),
+            (2, Step::Take, asked(5)),
+            (1, Step::Reply(b'1'), Answer::First),
+            (2, Step::Reply(b'2'), Answer::Late),
+            (0, Step::Take, replied(8)),
+            (1, Step::Leave, Answer::Done),
+            (2, Step::Decline, Answer::Late),
+            (0, Step::Leave, Answer::Done),
+            (2, Step::Leave, Answer::Done),
+        ],
+    );
+    let _ = play(
+        &rt,
+        rt.alloc(),
+        "closed without reply",
+        &[
+            (0, Step::Enter("/s"), entered(0)),
+            (1, Step::Enter("/p"), entered(1)),
+            (1, Step::ListenToMessages, Answer::Done),
+            (2, Step::Enter("/q"), entered(2)),
+            (2, Step::ListenToMessages, Answer::Done),
+            (0, Step::Send("\"hi\""), Answer::Request(REQUEST)),
+            (1, Step::Take, asked(5)),
+            (2, Step::Take, asked(5)),
+            (1, Step::Decline, Answer::Done),
+            (2, Step::Leave, Answer::Done),
+            (0, Step::Take, closed(9)),
+            (1, Step::Leave, Answer::Done),
+            (0, Step::Leave, Answer::Done),
+        ],
+    );
+    let _ = play(
+        &rt,
+        rt.alloc(),
+        "asker leaves",
+        &[
+            (0, Step::Enter("/s"), entered(0)),
+            (1, Step::Enter("/p"), entered(1)),
+            (1, Step::ListenToMessages, Answer::Done),
+            (2, Step::Enter("/q"), entered(2)),
+            (2, Step::ListenToMessages, Answer::Done),
+            (0, Step::Send("\"hi\""), Answer::Request(REQUEST)),
+            (1, Step::Take, asked(5)),
+            (2, Step::Take, asked(5)),
+            (0, Step::Leave, Answer::Done),
+            (1, Step::Reply(b'1'), Answer::Late),
+            (2, Step::Decline, Answer::Late),
+            (1, Step::Take, Answer::Empty),
+            (0, Step::Take, Answer::Gone),
+            (0, Step::Send("1"), Answer::Gone),
+            (0, Step::Decline, Answer::Gone),
+        ],
+    );
+    let _ = play(
+        &rt,
+        rt.alloc(),
+        "declined twice",
+        &[
+            (0, Step::Enter("/s"), entered(0)),
+            (1, Step::Enter("/p"), entered(1)),
+            (1, Step::ListenToMessages, Answer::Done),
+            (2, Step::Enter("/q"), entered(2)),
+            (2, Step::ListenToMessages, Answer::Done),
+            (0, Step::Send("\"hi\""), Answer::Request(REQUEST)),
+            (1, Step::Take, asked(5)),
+            (2, Step::Take, asked(5)),
+            (1, Step::Decline, Answer::Done),
+            (1, Step::Decline, Answer::Late),
+            (1, Step::Reply(b'1'), Answer::Late),
+            (0, Step::Take, Answer::Empty),
+            (2, Step::Reply(b'2'), Answer::First),
+            (0, Step::Take, replied(12)),
+        ],
+    );
+    let _ = play(
+        &rt,
+        rt.alloc(),
+        "early decline",
+        &[
+            (0, Step::Enter("/s"), entered(0)),
+            (1, Step::Enter("/p"), entered(1)),
+            (0, Step::Send("1"), Answer::NoReceiver),
+            (1, Step::ListenToMessages, Answer::Done),
+            (1, Step::Decline, Answer::NotYours),
+            (0, Step::Send("1"), Answer::Request(REQUEST)),
+            (0, Step::Reply(b'2'), Answer::NotYours),
+            (1, Step::Reply(b'3'), Answer::First),
+            (0, Step::Take, replied(7)),
+            (1, Step::Take, asked(5)),
+        ],
+    );
+    let _ = play(
+        &rt,
+        rt.alloc(),
+        "channels before requests",
+        &[
+            (0, Step::Enter("/s"), entered(0)),
+            (1, Step::Enter("/p"), entered(1)),
+            (1, Step::ListenToMessages, Answer::Done),
+            (0, Step::Send("1"), Answer::Request(REQUEST)),
+            (1, Step::Listen, Answer::Done),
+            (0, Step::Connect, Answer::Channel(CHANNEL)),
+            (1, Step::Leave, Answer::Done),
+            (0, Step::Take, disconnected(6)),
+            (0, Step::Take, closed(6)),
+            (0, Step::Take, Answer::Empty),
+        ],
+    );
+    Ok(())
+}
+
 /// Context 0 posts a number with so many digits on the first channel.
 fn post_digits(broker: &mut Broker, alloc: Global, count: usize) -> Option<Answer> {
     let text = JsonText::new(vec![in alloc; b'1'; count].ok()?).ok()?;
@@ -261,6 +416,55 @@ fn longest_post(rt: HostRuntime) -> Result<(), Fail> {
     for (count, answer) in [(67_108_864, Answer::Posted), (67_108_865, Answer::TooLong)] {
         let made = post_digits(&mut broker, rt.alloc(), count);
         assert_eq!(rt; made, Some(answer), "{count} digits");
+    }
+    Ok(())
+}
+
+/// Context c sends or replies a copy of that text.
+fn make_with(broker: &mut Broker, c: u64, step: &Step, text: &JsonText) -> Option<Answer> {
+    let text = text.try_clone().ok()?;
+    if c >= broker.contexts() {
+        return None;
+    }
+    let c = ContextNo(c);
+    match step {
+        Step::Send(_) => broker.send(c, Target::Own, text).ok(),
+        Step::Reply(_) => broker.reply(c, REQUEST, text).ok(),
+        _ => None,
+    }
+}
+
+/// A text of 67,108,865 bytes is refused as too long only where no other refusal comes first. A refused send
+/// makes no request.
+#[test]
+fn too_long_comes_last(rt: HostRuntime) -> Result<(), Fail> {
+    let digits = vec![in rt.alloc(); b'1'; 67_108_865]?;
+    let long = JsonText::new(digits).ok().ok_or("a number is a JSON text")?;
+    let mut broker = play(
+        &rt,
+        rt.alloc(),
+        "two pages",
+        &[
+            (0, Step::Enter("/s"), entered(0)),
+            (1, Step::Enter("/p"), entered(1)),
+        ],
+    );
+    for (c, step, is_long, answer) in [
+        (0, Step::Send("1"), true, Answer::NoReceiver),
+        (1, Step::ListenToMessages, false, Answer::Done),
+        (0, Step::Send("1"), true, Answer::TooLong),
+        (1, Step::Reply(b'1'), true, Answer::NotYours),
+        (0, Step::Send("1"), false, Answer::Request(REQUEST)),
+        (1, Step::Reply(b'1'), true, Answer::TooLong),
+        (1, Step::Reply(b'1'), false, Answer::First),
+        (1, Step::Reply(b'1'), true, Answer::Late),
+    ] {
+        let made = if is_long {
+            make_with(&mut broker, c, &step, &long)
+        } else {
+            make(&mut broker, rt.alloc(), c, &step)
+        };
+        assert_eq!(rt; made, Some(answer));
     }
     Ok(())
 }

@@ -1,4 +1,4 @@
-use crate::numbers::{ChannelNo, EntryNo};
+use crate::numbers::{ChannelNo, EntryNo, RequestNo};
 
 /// What an event tells the context that takes it.
 #[derive(Clone, Copy, Debug, PartialEq, Eq)]
@@ -9,6 +9,12 @@ pub enum EventKind {
     Message(ChannelNo),
     /// The other side closed the channel (`Port.onDisconnect`).
     Disconnected(ChannelNo),
+    /// A request was sent to it (`runtime.onMessage`).
+    Asked(RequestNo),
+    /// The first reply to its request (what `runtime.sendMessage` resolves to).
+    Replied(RequestNo),
+    /// Its request is settled without a reply.
+    Closed(RequestNo),
 }
 
 /// An event of a context, with the entry that delivered it.

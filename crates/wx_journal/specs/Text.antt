@@ -1,7 +1,7 @@
 -- The text of a journal. Each text is nested to the right: a word, a space, and what follows.
 use Rattle.std.specs.Prelude.{ℕ, length, List, ◌++◌, Bool, true, false, flat_map, decimal, codes}
 use Rattle.wx_id.specs.declared.events.EventKind.{EventKind}
-use Rattle.wx_id.specs.declared.events.EventKind.TheVariants.{Connected, Message, Disconnected}
+use Rattle.wx_id.specs.declared.events.EventKind.TheVariants.{Connected, Message, Disconnected, Asked, Replied, Closed}
 use Rattle.wx_machine.specs.declared.contexts.Context.{Context}
 use Rattle.wx_machine.specs.declared.contexts.Context.TheVariants.{Page}
 use Rattle.wx_machine.specs.declared.contexts.Target.{Target}
@@ -10,9 +10,9 @@ use Rattle.wx_machine.specs.declared.contexts.Listens.{Listens}
 use Rattle.wx_machine.specs.declared.entries.Who.{Who}
 use Rattle.wx_machine.specs.declared.entries.Who.TheVariants.{Context as ByContext}
 use Rattle.wx_machine.specs.declared.entries.Call.{Call}
-use Rattle.wx_machine.specs.declared.entries.Call.TheVariants.{Enter, Listen, Leave, Connect, Post, Disconnect, Take}
+use Rattle.wx_machine.specs.declared.entries.Call.TheVariants.{Enter, Listen, Leave, Connect, Post, Disconnect, Send, Reply, Decline, Take}
 use Rattle.wx_machine.specs.declared.entries.Answer.{Answer}
-use Rattle.wx_machine.specs.declared.entries.Answer.TheVariants.{Entered, Channel as OnChannel, Event as Told, Done, Gone, NoReceiver, Posted, NoPort, PortClosed, TooLong, NoEffect, Empty}
+use Rattle.wx_machine.specs.declared.entries.Answer.TheVariants.{Entered, Channel as OnChannel, Request as OnRequest, Event as Told, Done, Gone, NoReceiver, Posted, NoPort, PortClosed, TooLong, NoEffect, First, Late, NotYours, Empty}
 use Rattle.wx_machine.specs.declared.entries.Entry.{Entry}
 
 infixr 6 ◌␣◌
@@ -51,17 +51,24 @@ call_text Leave = codes "leave"
 call_text (Connect target name) = codes "connect" ␣ target_text target ␣ sized name
 call_text (Post k text) = codes "post" ␣ decimal k.0 ␣ sized text
 call_text (Disconnect k) = numbered (codes "disconnect") k.0
+call_text (Send target text) = codes "send" ␣ target_text target ␣ sized text
+call_text (Reply r text) = codes "reply" ␣ decimal r.0 ␣ sized text
+call_text (Decline r) = numbered (codes "decline") r.0
 call_text Take = codes "take"
 
--- an event: its kind, its channel, and the entry that delivered it
+-- an event: its kind, its channel or request, and the entry that delivered it
 abbrev pub event_text : EventKind → ℕ → List ℕ
 event_text (Connected k) e = codes "connected" ␣ decimal k.0 ␣ decimal e
 event_text (Message k) e = codes "message" ␣ decimal k.0 ␣ decimal e
 event_text (Disconnected k) e = codes "disconnected" ␣ decimal k.0 ␣ decimal e
+event_text (Asked r) e = codes "asked" ␣ decimal r.0 ␣ decimal e
+event_text (Replied r) e = codes "replied" ␣ decimal r.0 ␣ decimal e
+event_text (Closed r) e = codes "closed" ␣ decimal r.0 ␣ decimal e
 
 abbrev pub answer_text : Answer → List ℕ
 answer_text (Entered c) = numbered (codes "context") c.0
 answer_text (OnChannel k) = numbered (codes "channel") k.0
+answer_text (OnRequest r) = numbered (codes "request") r.0
 answer_text (Told event) = event_text event.kind event.entry.0
 answer_text Done = codes "done"
 answer_text Gone = codes "gone"
@@ -71,6 +78,9 @@ answer_text NoPort = codes "no_port"
 answer_text PortClosed = codes "port_closed"
 answer_text TooLong = codes "too_long"
 answer_text NoEffect = codes "no_effect"
+answer_text First = codes "first"
+answer_text Late = codes "late"
+answer_text NotYours = codes "not_yours"
 answer_text Empty = codes "empty"
 
 -- an entry's line: who, the call, and the answer behind an arrow

@@ -30,7 +30,7 @@ fn text_of_call(call: &Call) -> Option<&JsonText>
     ensures { option_copied result ≡ text_in call.now }
 {
     match call {
-        Call::Post(_, text) => Some(text),
+        Call::Post(_, text) | Call::Send(_, text) | Call::Reply(_, text) => Some(text),
         _ => None,
     }
 }

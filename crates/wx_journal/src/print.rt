@@ -84,6 +84,9 @@ fn put_event(alloc: Global, out: &mut Vec<u8>, event: Event) -> Result<(), Alloc
         EventKind::Connected(k) => put_numbers(alloc, out, b"connected", k.0, event.entry.0),
         EventKind::Message(k) => put_numbers(alloc, out, b"message", k.0, event.entry.0),
         EventKind::Disconnected(k) => put_numbers(alloc, out, b"disconnected", k.0, event.entry.0),
+        EventKind::Asked(r) => put_numbers(alloc, out, b"asked", r.0, event.entry.0),
+        EventKind::Replied(r) => put_numbers(alloc, out, b"replied", r.0, event.entry.0),
+        EventKind::Closed(r) => put_numbers(alloc, out, b"closed", r.0, event.entry.0),
     }
 }
 
@@ -93,6 +96,7 @@ fn put_answer(alloc: Global, out: &mut Vec<u8>, answer: Answer) -> Result<(), Al
     match answer {
         Answer::Entered(c) => put_numbered(alloc, out, b"context", c.0),
         Answer::Channel(k) => put_numbered(alloc, out, b"channel", k.0),
+        Answer::Request(r) => put_numbered(alloc, out, b"request", r.0),
         Answer::Event(event) => put_event(alloc, out, event),
         Answer::Done => put(out, b"done"),
         Answer::Gone => put(out, b"gone"),
@@ -102,6 +106,9 @@ fn put_answer(alloc: Global, out: &mut Vec<u8>, answer: Answer) -> Result<(), Al
         Answer::PortClosed => put(out, b"port_closed"),
         Answer::TooLong => put(out, b"too_long"),
         Answer::NoEffect => put(out, b"no_effect"),
+        Answer::First => put(out, b"first"),
+        Answer::Late => put(out, b"late"),
+        Answer::NotYours => put(out, b"not_yours"),
         Answer::Empty => put(out, b"empty"),
     }
 }
@@ -189,6 +196,9 @@ fn put_call(alloc: Global, out: &mut Vec<u8>, call: &Call) -> Result<(), AllocEr
         }
         Call::Post(k, text) => put_on(alloc, out, b"post", k.0, text.bytes()),
         Call::Disconnect(k) => put_numbered(alloc, out, b"disconnect", k.0),
+        Call::Send(target, text) => put_to_target(alloc, out, b"send", *target, text.bytes()),
+        Call::Reply(r, text) => put_on(alloc, out, b"reply", r.0, text.bytes()),
+        Call::Decline(r) => put_numbered(alloc, out, b"decline", r.0),
         Call::Take => put(out, b"take"),
     }
 }

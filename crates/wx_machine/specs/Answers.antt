@@ -1,25 +1,24 @@
 -- What each call is answered, and which journals are legal.
-use Rattle.std.specs.Prelude.{◌≡◌, ℕ, length, List, [], ◌∷◌, ◌++◌, Bool, true, false, ◌&&◌, cond, Option, Some, None, IsTrue, reverse, nat_lt, ◌==◌}
+use Rattle.std.specs.Prelude.{◌≡◌, ℕ, length, List, [], ◌∷◌, Bool, ◌||◌, cond, Option, Some, None, IsTrue, reverse, nat_lt, ◌==◌}
 use Rattle.wx_id.specs.declared.numbers.ContextNo.{ContextNo}
 use Rattle.wx_id.specs.declared.events.Event.{Event}
 use Rattle.wx_id.specs.declared.events.End.{End}
 use Rattle.wx_id.specs.declared.events.End.TheVariants.{Neither}
 use Rattle.wx_machine.specs.declared.world.World.{World}
+use Rattle.wx_machine.specs.declared.contexts.Sort.TheVariants.{Connection, Message}
 use Rattle.wx_machine.specs.declared.entries.Who.{Who}
 use Rattle.wx_machine.specs.declared.entries.Who.TheVariants.{Context as ByContext}
 use Rattle.wx_machine.specs.declared.entries.Call.{Call}
-use Rattle.wx_machine.specs.declared.entries.Call.TheVariants.{Enter, Listen, Leave, Connect, Post, Disconnect, Take}
+use Rattle.wx_machine.specs.declared.entries.Call.TheVariants.{Enter, Listen, Leave, Connect, Post, Disconnect, Send, Reply, Decline, Take}
 use Rattle.wx_machine.specs.declared.entries.Answer.{Answer}
-use Rattle.wx_machine.specs.declared.entries.Answer.TheVariants.{Entered, Channel as OnChannel, Event as Told, Done, Gone, NoReceiver, Posted, NoPort, PortClosed, TooLong, NoEffect, Empty}
+use Rattle.wx_machine.specs.declared.entries.Answer.TheVariants.{Entered, Channel as OnChannel, Request as OnRequest, Event as Told, Done, Gone, NoReceiver, Posted, NoPort, PortClosed, TooLong, NoEffect, First, Late, NotYours, Empty}
 use Rattle.wx_machine.specs.declared.entries.Entry.{Entry}
-use Rattle.wx_machine.specs.Contexts.{contexts, is_live, receivers_of, Connection}
+use Rattle.wx_machine.specs.declared.texts.TheConstants.{LONGEST}
+use Rattle.wx_machine.specs.Contexts.{contexts, is_live, receivers_of}
 use Rattle.wx_machine.specs.Channels.{channels, channel, end_in, is_closed}
+use Rattle.wx_machine.specs.Requests.{requests, request, is_asked, has_declined, is_settled}
 use Rattle.wx_machine.specs.Events.{pending, first}
 use Rattle.wx_machine.specs.Each.{EachAfter}
-
--- the longest text that is passed on, in bytes
-abbrev pub longest : ℕ
-longest = 67108864
 
 -- with no receiver that is the answer
 abbrev pub where_heard : List ContextNo → Answer → Answer
@@ -28,12 +27,20 @@ where_heard (c ∷ cs) a = a
 
 -- a long text is refused
 abbrev pub where_short : List ℕ → Answer → Answer
-where_short text a = cond (nat_lt longest (length text)) TooLong a
+where_short text a = cond (nat_lt LONGEST (length text)) TooLong a
 
 -- the answer on a channel: to one that is no end of it, where it is closed, and where it is open
 abbrev pub at_end : End → Bool → Answer → Answer → Answer
 at_end Neither closed on_closed on_open = NoPort
 at_end _ closed on_closed on_open = cond closed on_closed on_open
+
+-- the answer on a request: to one whom it was not sent to, where it is too late, and else
+abbrev pub on_request : Bool → Bool → Answer → Answer
+on_request asked late a = cond asked (cond late Late a) NotYours
+
+-- it is too late for context c to reply to request r, or to decline it
+abbrev pub is_late : List Entry → ℕ → ContextNo → Bool
+is_late past r c = is_settled past r || has_declined past r c
 
 abbrev pub told_or_empty : Option Event → Answer
 told_or_empty None = Empty
@@ -47,6 +54,9 @@ answer_to world past c Leave = Done
 answer_to world past c (Connect target name) = where_heard (receivers_of past c target Connection) (OnChannel (record { 0 = length (channels past) }))
 answer_to world past c (Post k text) = at_end (end_in (channel past k.0) c) (is_closed past k.0) PortClosed (where_short text Posted)
 answer_to world past c (Disconnect k) = at_end (end_in (channel past k.0) c) (is_closed past k.0) NoEffect Done
+answer_to world past c (Send target text) = where_heard (receivers_of past c target Message) (where_short text (OnRequest (record { 0 = length (requests past) })))
+answer_to world past c (Reply r text) = on_request (is_asked (request past r.0) c) (is_late past r.0 c) (where_short text First)
+answer_to world past c (Decline r) = on_request (is_asked (request past r.0) c) (is_late past r.0 c) Done
 answer_to world past c Take = told_or_empty (first (pending past c))
 
 -- who enters need not live; every other call of one who does not is answered `Gone`

@@ -8,6 +8,8 @@ use Rattle.wx_machine.specs.declared.contexts.Context.TheVariants.{Page}
 use Rattle.wx_machine.specs.declared.contexts.Target.{Target}
 use Rattle.wx_machine.specs.declared.contexts.Target.TheVariants.{Own}
 use Rattle.wx_machine.specs.declared.contexts.Listens.{Listens}
+use Rattle.wx_machine.specs.declared.contexts.Sort.{Sort}
+use Rattle.wx_machine.specs.declared.contexts.Sort.TheVariants.{Connection, Message}
 use Rattle.wx_machine.specs.declared.entries.Who.{Who}
 use Rattle.wx_machine.specs.declared.entries.Who.TheVariants.{Context as ByContext}
 use Rattle.wx_machine.specs.declared.entries.Call.{Call}
@@ -98,14 +100,10 @@ abbrev pub is_extension : Option (List ℕ) → List ℕ → Bool
 is_extension None id = false
 is_extension (Some ext) id = bytes_eq ext id
 
--- what is sent to a target
-pub data Sort : Type 0 where
-  -- a connection, by `connect`
-  Connection : Sort
-
 -- whether one who listens so hears that sort
 abbrev pub hears : Sort → Listens → Bool
 hears Connection l = l.connect
+hears Message l = l.message
 
 -- whether the target of a caller from that extension names a context
 abbrev pub names : Option (List ℕ) → Target → Context → Bool
@@ -115,7 +113,7 @@ abbrev pub names_if : Option Context → Target → Sort → Option Context → 
 names_if (Some x) target sort (Some y) l = names (extension_of x) target y && hears sort l
 names_if _ target sort _ l = false
 
--- whether context d is a receiver of what context c sends to a target (WebExtensions "runtime.connect")
+-- whether context d is a receiver of what context c sends to a target (WebExtensions "runtime.connect" and "runtime.sendMessage")
 abbrev pub is_receiver : List Entry → ContextNo → Target → Sort → ContextNo → Bool
 is_receiver past c target sort d =
     not (same_context d c) && is_live past d && names_if (context_of past c) target sort (context_of past d) (listens_of past d)

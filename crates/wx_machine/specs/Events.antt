@@ -4,18 +4,19 @@ use Rattle.std.specs.List.{list_any, range_with_len}
 use Rattle.wx_id.specs.declared.numbers.ContextNo.{ContextNo}
 use Rattle.wx_id.specs.declared.events.Event.{Event}
 use Rattle.wx_id.specs.declared.events.EventKind.{EventKind}
-use Rattle.wx_id.specs.declared.events.EventKind.TheVariants.{Connected, Message, Disconnected}
+use Rattle.wx_id.specs.declared.events.EventKind.TheVariants.{Connected, Message, Disconnected, Asked, Replied, Closed}
 use Rattle.wx_id.specs.declared.events.End.{End}
 use Rattle.wx_id.specs.declared.events.End.TheVariants.{Opener, Receiver}
 use Rattle.wx_machine.specs.declared.entries.Who.{Who}
 use Rattle.wx_machine.specs.declared.entries.Who.TheVariants.{Context as ByContext}
 use Rattle.wx_machine.specs.declared.entries.Call.{Call}
-use Rattle.wx_machine.specs.declared.entries.Call.TheVariants.{Post, Disconnect, Leave, Take}
+use Rattle.wx_machine.specs.declared.entries.Call.TheVariants.{Post, Disconnect, Leave, Reply, Decline, Take}
 use Rattle.wx_machine.specs.declared.entries.Answer.{Answer}
-use Rattle.wx_machine.specs.declared.entries.Answer.TheVariants.{Event as Told, Posted, Done}
+use Rattle.wx_machine.specs.declared.entries.Answer.TheVariants.{Event as Told, Posted, First, Done}
 use Rattle.wx_machine.specs.declared.entries.Entry.{Entry}
 use Rattle.wx_machine.specs.Contexts.{is_by, is_live}
 use Rattle.wx_machine.specs.Channels.{Ends, opens, channels, channel, end_in, closes}
+use Rattle.wx_machine.specs.Requests.{Parties, asks, requests, request, is_asker, is_asked, settles}
 
 abbrev pub is_receiving : End → Bool
 is_receiving Receiver = true
@@ -57,13 +58,36 @@ disconnected past e (Disconnect k) c = disconnected_on past e c k.0
 disconnected past e Leave c = flat_map (disconnected_on past e c) (range_with_len 0 (length (channels past)))
 disconnected past e _ c = []
 
+-- a request that an entry makes is told to each receiver
+abbrev pub asked : ℕ → Option Parties → ContextNo → List EventKind
+asked r parties c = on (is_asked parties c) (Asked (record { 0 = r }))
+
+-- the first reply goes to the asker
+abbrev pub replied : List Entry → Call → Answer → ContextNo → List EventKind
+replied past (Reply r text) First c = on (is_asker (request past r.0) c) (Replied r)
+replied past _ _ c = []
+
+-- that request r is settled without a reply is told to the asker, unless it is the caller
+abbrev pub unanswered_on : List Entry → Entry → ContextNo → ℕ → List EventKind
+unanswered_on past e c r = on (settles past e r && is_asker (request past r) c && not (is_by e.who c)) (Closed (record { 0 = r }))
+
+-- a decline settles one request, and a leave all those of which it is the last open receiver
+abbrev pub unanswered : List Entry → Entry → Call → ContextNo → List EventKind
+unanswered past e (Decline r) c = unanswered_on past e c r.0
+unanswered past e Leave c = flat_map (unanswered_on past e c) (range_with_len 0 (length (requests past)))
+unanswered past e _ c = []
+
 -- what entry e, with these before it, tells context c of channels
 abbrev pub of_channels : List Entry → Entry → ContextNo → List EventKind
 of_channels past e c = connected (length (channels past)) (opens past e) c ++ message past e.who e.call e.answer c ++ disconnected past e e.call c
 
--- all that it tells
+-- what it tells context c of requests
+abbrev pub of_requests : List Entry → Entry → ContextNo → List EventKind
+of_requests past e c = asked (length (requests past)) (asks past e) c ++ replied past e.call e.answer c ++ unanswered past e e.call c
+
+-- all that it tells: of channels in rising number, then of requests
 abbrev pub tells : List Entry → Entry → ContextNo → List EventKind
-tells past e c = of_channels past e c
+tells past e c = of_channels past e c ++ of_requests past e c
 
 -- the event of that kind that entry n delivers
 abbrev pub marked : ℕ → EventKind → Event
@@ -91,6 +115,9 @@ abbrev pub same_kind : EventKind → EventKind → Bool
 same_kind (Connected k) (Connected j) = k.0 == j.0
 same_kind (Message k) (Message j) = k.0 == j.0
 same_kind (Disconnected k) (Disconnected j) = k.0 == j.0
+same_kind (Asked r) (Asked s) = r.0 == s.0
+same_kind (Replied r) (Replied s) = r.0 == s.0
+same_kind (Closed r) (Closed s) = r.0 == s.0
 same_kind _ _ = false
 
 abbrev pub same_event : Event → Event → Bool
@@ -101,6 +128,9 @@ abbrev pub is_of : ℕ → EventKind → Bool
 is_of k (Connected j) = j.0 == k
 is_of k (Message j) = j.0 == k
 is_of k (Disconnected j) = j.0 == k
+is_of k (Asked r) = false
+is_of k (Replied r) = false
+is_of k (Closed r) = false
 
 abbrev pub drops_by : Call → Answer → EventKind → Bool
 drops_by (Disconnect k) Done kind = is_of k.0 kind

@@ -1,17 +1,18 @@
 -- Worked examples of the machine: calls, and what they are answered one after another.
 use Rattle.std.specs.Prelude.{◌≡◌, ℕ, List, [], ◌∷◌, ◌++◌, map, true, false, reverse, codes, Some}
 use Rattle.wx_id.specs.declared.numbers.ChannelNo.{ChannelNo}
+use Rattle.wx_id.specs.declared.numbers.RequestNo.{RequestNo}
 use Rattle.wx_id.specs.declared.events.EventKind.{EventKind}
-use Rattle.wx_id.specs.declared.events.EventKind.TheVariants.{Connected, Message, Disconnected}
+use Rattle.wx_id.specs.declared.events.EventKind.TheVariants.{Connected, Message, Disconnected, Asked, Replied, Closed}
 use Rattle.wx_machine.specs.declared.contexts.Context.TheVariants.{Page}
 use Rattle.wx_machine.specs.declared.contexts.Target.TheVariants.{Own}
 use Rattle.wx_machine.specs.declared.world.World.{World}
 use Rattle.wx_machine.specs.declared.entries.Who.{Who}
 use Rattle.wx_machine.specs.declared.entries.Who.TheVariants.{Context as ByContext}
 use Rattle.wx_machine.specs.declared.entries.Call.{Call}
-use Rattle.wx_machine.specs.declared.entries.Call.TheVariants.{Enter, Listen, Leave, Connect, Post, Disconnect, Take}
+use Rattle.wx_machine.specs.declared.entries.Call.TheVariants.{Enter, Listen, Leave, Connect, Post, Disconnect, Send, Reply, Decline, Take}
 use Rattle.wx_machine.specs.declared.entries.Answer.{Answer}
-use Rattle.wx_machine.specs.declared.entries.Answer.TheVariants.{Entered, Channel as OnChannel, Event as Told, Done, NoReceiver, Posted, PortClosed, NoEffect, Empty}
+use Rattle.wx_machine.specs.declared.entries.Answer.TheVariants.{Entered, Channel as OnChannel, Request as OnRequest, Event as Told, Done, Gone, NoReceiver, Posted, PortClosed, NoEffect, First, Late, NotYours, Empty}
 use Rattle.wx_machine.specs.declared.entries.Entry.{Entry}
 use Rattle.wx_machine.specs.Channels.{closed_at}
 use Rattle.wx_machine.specs.Answers.{made_of}
@@ -112,3 +113,59 @@ DisconnectDropsWhatWaits =
     ∷ by 1 (Disconnect (channel 0)) ∷ by 0 Leave ∷ by 1 Take ∷ by 1 Leave ∷ [])
     ≡ entered 0 ∷ entered 1 ∷ Done ∷ OnChannel (channel 0) ∷ Done ∷ Posted ∷ Done ∷ Posted
     ∷ told 3 (Connected (channel 0)) ∷ Posted ∷ Done ∷ Done ∷ Empty ∷ Done ∷ []
+
+abbrev pub listen_message : Call
+listen_message = Listen (record { connect = false; message = true; external_connect = false; external_message = false })
+
+abbrev pub request : ℕ → RequestNo
+request n = record { 0 = n }
+
+abbrev pub send : List ℕ → Call
+send text = Send Own text
+
+abbrev pub reply : ℕ → List ℕ → Call
+reply r text = Reply (request r) text
+
+abbrev pub decline : ℕ → Call
+decline r = Decline (request r)
+
+-- a page that sends, and two that listen and take the request
+abbrev pub two_asked : List (Who × Call)
+two_asked =
+    by 0 (a_page (codes "/s")) ∷ by 1 (a_page (codes "/p")) ∷ by 1 listen_message ∷ by 2 (a_page (codes "/q")) ∷ by 2 listen_message
+    ∷ by 0 (send (codes "\"hi\"")) ∷ by 1 Take ∷ by 2 Take ∷ []
+
+abbrev pub two_asked_answers : List Answer
+two_asked_answers =
+    entered 0 ∷ entered 1 ∷ Done ∷ entered 2 ∷ Done
+    ∷ OnRequest (request 0) ∷ told 5 (Asked (request 0)) ∷ told 5 (Asked (request 0)) ∷ []
+
+abbrev pub first_reply_calls : List (Who × Call)
+first_reply_calls = two_asked ++ (by 1 (reply 0 (codes "1")) ∷ by 2 (reply 0 (codes "2")) ∷ by 0 Take ∷ by 1 Leave ∷ by 2 (decline 0) ∷ by 0 Leave ∷ by 2 Leave ∷ [])
+
+-- the first reply wins
+abbrev pub FirstReplyWins : Type 0
+FirstReplyWins =
+    (world : World) → answers_to world first_reply_calls
+    ≡ two_asked_answers ++ (First ∷ Late ∷ told 8 (Replied (request 0)) ∷ Done ∷ Late ∷ Done ∷ Done ∷ [])
+
+-- a request is closed where its receivers have declined or left
+abbrev pub ClosedWithoutReply : Type 0
+ClosedWithoutReply =
+    (world : World) → answers_to world (two_asked ++ (by 1 (decline 0) ∷ by 2 Leave ∷ by 0 Take ∷ by 1 Leave ∷ by 0 Leave ∷ []))
+    ≡ two_asked_answers ++ (Done ∷ Done ∷ told 9 (Closed (request 0)) ∷ Done ∷ Done ∷ [])
+
+-- an asker that leaves settles its request: the reply comes late, and nobody is told
+abbrev pub AskerLeaves : Type 0
+AskerLeaves =
+    (world : World) → answers_to world (two_asked ++ (by 0 Leave ∷ by 1 (reply 0 (codes "1")) ∷ by 2 (decline 0) ∷ by 1 Take ∷ by 2 Take ∷ by 0 Take ∷ []))
+    ≡ two_asked_answers ++ (Done ∷ Late ∷ Late ∷ Empty ∷ Empty ∷ Gone ∷ [])
+
+-- a decline before the request is made is none of its receiver, who may still reply
+abbrev pub EarlyDecline : Type 0
+EarlyDecline =
+    (world : World) → answers_to world
+    (by 0 (a_page (codes "/s")) ∷ by 1 (a_page (codes "/p")) ∷ by 1 listen_message ∷ by 1 (decline 0)
+    ∷ by 0 (send (codes "1")) ∷ by 0 (reply 0 (codes "2")) ∷ by 1 (reply 0 (codes "3")) ∷ by 0 Take ∷ by 1 Take ∷ [])
+    ≡ entered 0 ∷ entered 1 ∷ Done ∷ NotYours
+    ∷ OnRequest (request 0) ∷ NotYours ∷ First ∷ told 6 (Replied (request 0)) ∷ told 4 (Asked (request 0)) ∷ []

@@ -38,9 +38,18 @@ pub struct Listens {
     pub external_message: bool,
 }
 
-/// Whom a `connect` is for.
+/// Whom a `connect` or a `send` is for.
 #[derive(Clone, Copy, Debug, PartialEq, Eq)]
 pub enum Target {
     /// The pages of the caller's own extension.
     Own,
+}
+
+/// What is sent to a target.
+#[derive(Clone, Copy, Debug, PartialEq, Eq)]
+pub enum Sort {
+    /// A connection, by `connect`.
+    Connection,
+    /// A message that asks for one reply, by `send`.
+    Message,
 }

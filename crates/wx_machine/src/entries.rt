@@ -1,5 +1,5 @@
 use crate::contexts::{Context, Listens, Target};
-use wx_id::{ChannelNo, ContextNo, Event, Utf8Text};
+use wx_id::{ChannelNo, ContextNo, Event, RequestNo, Utf8Text};
 use wx_json::JsonText;
 
 /// Who makes a call.
@@ -24,6 +24,12 @@ pub enum Call {
     Post(ChannelNo, JsonText),
     /// The caller closes a channel (`Port.disconnect`).
     Disconnect(ChannelNo),
+    /// The caller sends a message to a target, and asks for one reply (`runtime.sendMessage`).
+    Send(Target, JsonText),
+    /// The caller replies to a request that was sent to it (`sendResponse` of `runtime.onMessage`).
+    Reply(RequestNo, JsonText),
+    /// The caller says that it will not reply to a request.
+    Decline(RequestNo),
     /// The caller takes the first event that is pending for it.
     Take,
 }
@@ -35,6 +41,8 @@ pub enum Answer {
     Entered(ContextNo),
     /// The number of the channel that was opened.
     Channel(ChannelNo),
+    /// The number of the request that was made.
+    Request(RequestNo),
     /// The event that was taken.
     Event(Event),
     /// The call was made.
@@ -53,6 +61,12 @@ pub enum Answer {
     TooLong,
     /// The channel was closed before.
     NoEffect,
+    /// The reply is the request's first, and goes to the asker.
+    First,
+    /// The request is settled, or the caller declined it before.
+    Late,
+    /// The request was not sent to the caller.
+    NotYours,
     /// Nothing is pending.
     Empty,
 }

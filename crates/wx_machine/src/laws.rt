@@ -1,5 +1,5 @@
 //! Worked examples of the definitions, each the contract of a function that does nothing.
-ghost use Rattle.wx_machine.specs.Rows.{OneConnectionOnePost, ConnectReachesNobody, ReceiverDisconnects, ReceiverLeaves, PostsOutliveTheOpener, DisconnectDropsWhatWaits};
+ghost use Rattle.wx_machine.specs.Rows.{OneConnectionOnePost, ConnectReachesNobody, ReceiverDisconnects, ReceiverLeaves, PostsOutliveTheOpener, DisconnectDropsWhatWaits, FirstReplyWins, ClosedWithoutReply, AskerLeaves, EarlyDecline};
 
 /// Two pages, one connection, one posted number.
 pub fn one_connection_one_post()
@@ -29,4 +29,24 @@ pub fn posts_outlive_the_opener()
 /// One who disconnects a channel takes nothing more of it.
 pub fn disconnect_drops_what_waits()
     ensures { DisconnectDropsWhatWaits }
+{}
+
+/// The first reply wins; later ones come late.
+pub fn first_reply_wins()
+    ensures { FirstReplyWins }
+{}
+
+/// A request is closed without a reply once every receiver declined or left.
+pub fn closed_without_reply()
+    ensures { ClosedWithoutReply }
+{}
+
+/// An asker that leaves settles its request.
+pub fn asker_leaves()
+    ensures { AskerLeaves }
+{}
+
+/// A decline before the request is made does not count.
+pub fn early_decline()
+    ensures { EarlyDecline }
 {}

@@ -9,8 +9,8 @@ mod tests;
 mod texts;
 mod world;
 
-pub use contexts::{Context, Listens, Target};
+pub use contexts::{Context, Listens, Sort, Target};
 pub use entries::{Answer, Call, Entry, Who};
-pub use texts::{PagePath, PathFault, are_printable, is_page_path};
+pub use texts::{LONGEST, PagePath, PathFault, are_printable, is_page_path};
 pub use world::World;
 pub use wx_json::JsonText;

@@ -5,6 +5,9 @@ use std::alloc::Global;
 use std::marker::Model;
 use wx_id::{NoMemory, Utf8Text};
 
+/// The longest text that is passed on, in bytes.
+pub const LONGEST: u64 = 67_108_864;
+
 /// The path of an extension's page: `/`, and printable ASCII bytes but the space. Contracts see its bytes.
 #[derive(Debug, Drop)]
 pub struct PagePath {

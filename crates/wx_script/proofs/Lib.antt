@@ -9,3 +9,4 @@ pub mod NameLemmas
 pub mod ReadingLemmas
 pub mod FaultLemmas
 pub mod SoundLemmas
+pub mod LeftLemmas

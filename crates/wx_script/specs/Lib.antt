@@ -14,3 +14,4 @@ pub mod Adding
 pub mod Scene
 pub mod Reading
 pub mod Examples
+pub mod Left

@@ -2,6 +2,7 @@
 #![tactic(auto)]
 
 mod draft;
+pub mod endings;
 #[cfg(test)]
 mod fault_tests;
 pub mod laws;

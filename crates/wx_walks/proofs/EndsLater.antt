@@ -6,12 +6,13 @@ use Rattle.std.proofs.lemmas.Bool.Decides.{nat_tests, Decides-eqb}
 use Rattle.wx_id.specs.declared.numbers.ContextNo.{ContextNo}
 use Rattle.wx_machine.specs.declared.contexts.Context.{Context}
 use Rattle.wx_machine.specs.declared.contexts.Target.{Target}
+use Rattle.wx_machine.specs.declared.contexts.Sort.{Sort}
 use Rattle.wx_machine.specs.declared.entries.Entry.{Entry}
-use Rattle.wx_machine.specs.Contexts.{same_context, is_there, if_numbered, enters, context_of, numbers, numbers_of, has_left, names_if, listens_of, is_receiver, receivers_of, Sort}
+use Rattle.wx_machine.specs.Contexts.{same_context, is_there, if_numbered, enters, context_of, numbers, numbers_of, has_left, names_if, listens_of, is_receiver, receivers_of}
 use Rattle.wx_machine.specs.Channels.{Ends, opens, channels, channel, end_in, is_among}
 use Rattle.wx_walks.proofs.Past.{came_more}
 
-length_options : {X : Type 0} (xs : List X) (o : Option X) → length (xs ++ option_to_list o) ≡ cond (is_some o) (length xs + 1) (length xs)
+pub length_options : {X : Type 0} (xs : List X) (o : Option X) → length (xs ++ option_to_list o) ≡ cond (is_some o) (length xs + 1) (length xs)
 length_options [] None = refl
 length_options [] (Some x) = refl
 length_options (y ∷ xs) None = ap suc (length_options xs None)

@@ -12,7 +12,8 @@ use Rattle.wx_id.specs.declared.events.EventKind.{EventKind}
 use Rattle.wx_machine.specs.declared.entries.Entry.{Entry}
 use Rattle.wx_machine.specs.Contexts.{is_by}
 use Rattle.wx_machine.specs.Channels.{opens, channels}
-use Rattle.wx_machine.specs.Events.{connected, message, disconnected, delivered, queued, taken, event_in, marked, first}
+use Rattle.wx_machine.specs.Requests.{asks, requests}
+use Rattle.wx_machine.specs.Events.{connected, message, disconnected, of_channels, asked, replied, unanswered, of_requests, delivered, queued, taken, event_in, marked, first}
 use Rattle.wx_walks.proofs.ClosingLater.{any_append}
 
 -- what `was_taken` says of one more entry
@@ -43,15 +44,19 @@ range_more n =
 flat_map_range_more : {X : Type 0} (f : ℕ → List X) (n : ℕ) → flat_map f (range_with_len 0 (n + 1)) ≡ flat_map f (range_with_len 0 n) ++ f n
 flat_map_range_more f n = ap (flat_map f) (range_more n) ∙ sym (flat_map_more f [] (range_with_len 0 n) n)
 
--- the first of what is told of the channels up to k
-pub disconnected_more : (w : Event → Bool) (n : ℕ) (f : ℕ → List EventKind) (k : ℕ) → first (filter w (map (marked n) (flat_map f (range_with_len 0 (k + 1))))) ≡ option_or (first (filter w (map (marked n) (flat_map f (range_with_len 0 k))))) (first (filter w (map (marked n) (f k))))
-disconnected_more w n f k = ap (λ l. first (filter w (map (marked n) l))) (flat_map_range_more f k) ∙ first_events w n (flat_map f (range_with_len 0 k)) (f k)
+-- the first of what is told of the channels, or requests, up to number k
+pub numbers_more : (w : Event → Bool) (n : ℕ) (f : ℕ → List EventKind) (k : ℕ) → first (filter w (map (marked n) (flat_map f (range_with_len 0 (k + 1))))) ≡ option_or (first (filter w (map (marked n) (flat_map f (range_with_len 0 k))))) (first (filter w (map (marked n) (f k))))
+numbers_more w n f k = ap (λ l. first (filter w (map (marked n) l))) (flat_map_range_more f k) ∙ first_events w n (flat_map f (range_with_len 0 k)) (f k)
 
 -- the first of three lists of kinds
 three_first : (w : Event → Bool) (n : ℕ) (xs ys zs : List EventKind) → first (filter w (map (marked n) (xs ++ ys ++ zs))) ≡ option_or (option_or (first (filter w (map (marked n) xs))) (first (filter w (map (marked n) ys)))) (first (filter w (map (marked n) zs)))
 three_first w n xs ys zs =
     first_events w n (xs ++ ys) zs ∙ ap (λ o. option_or o (first (filter w (map (marked n) zs)))) (first_events w n xs ys)
 
--- the first of all that an entry delivers
-pub delivered_first : (w : Event → Bool) (e : Entry) (past : List Entry) (c : ContextNo) → first (filter w (delivered past e c)) ≡ option_or (option_or (first (filter w (map (marked (length past)) (connected (length (channels past)) (opens past e) c)))) (first (filter w (map (marked (length past)) (message past e.who e.call e.answer c))))) (first (filter w (map (marked (length past)) (disconnected past e e.call c))))
-delivered_first w e past c = three_first w (length past) (connected (length (channels past)) (opens past e) c) (message past e.who e.call e.answer c) (disconnected past e e.call c)
+-- the first of all that an entry tells of channels
+pub channels_first : (w : Event → Bool) (n : ℕ) (e : Entry) (past : List Entry) (c : ContextNo) → first (filter w (map (marked n) (of_channels past e c))) ≡ option_or (option_or (first (filter w (map (marked n) (connected (length (channels past)) (opens past e) c)))) (first (filter w (map (marked n) (message past e.who e.call e.answer c))))) (first (filter w (map (marked n) (disconnected past e e.call c))))
+channels_first w n e past c = three_first w n (connected (length (channels past)) (opens past e) c) (message past e.who e.call e.answer c) (disconnected past e e.call c)
+
+-- the same of requests
+pub requests_first : (w : Event → Bool) (n : ℕ) (e : Entry) (past : List Entry) (c : ContextNo) → first (filter w (map (marked n) (of_requests past e c))) ≡ option_or (option_or (first (filter w (map (marked n) (asked (length (requests past)) (asks past e) c)))) (first (filter w (map (marked n) (replied past e.call e.answer c))))) (first (filter w (map (marked n) (unanswered past e e.call c))))
+requests_first w n e past c = three_first w n (asked (length (requests past)) (asks past e) c) (replied past e.call e.answer c) (unanswered past e e.call c)

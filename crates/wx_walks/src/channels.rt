@@ -4,7 +4,7 @@ ghost use Rattle.wx_machine.specs.Channels.{opens, channels, channel, end_in};
 
 use crate::contexts::is_receiver;
 use wx_id::{ChannelNo, ContextNo, End};
-use wx_machine::{Answer, Call, Entry, Who};
+use wx_machine::{Answer, Call, Entry, Sort, Who};
 
 /// Whether the entry opens a channel.
 pub fn opens(before: &[Entry], e: &Entry) -> bool
@@ -39,7 +39,7 @@ pub fn end_at_opening(before: &[Entry], e: &Entry, c: ContextNo) -> End
         (Who::Context(opener), Call::Connect(target, _), Answer::Channel(_)) => {
             if *opener == c {
                 End::Opener
-            } else if is_receiver(before, *opener, *target, c) {
+            } else if is_receiver(before, *opener, *target, Sort::Connection, c) {
                 End::Receiver
             } else {
                 End::Neither

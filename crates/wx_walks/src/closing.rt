@@ -2,13 +2,13 @@
 ghost use Rattle.std.specs.Prelude.{◌≡◌, ◌&&◌, ◌==◌, ◌∷◌, cond, is_some, filter, length, reverse, Some, None};
 ghost use Rattle.std.specs.Option.{option_or};
 ghost use Rattle.std.specs.List.{list_any};
-ghost use Rattle.wx_machine.specs.Contexts.{is_live, is_receiver, receivers_of, numbers_of, enters, Connection};
+ghost use Rattle.wx_machine.specs.Contexts.{is_live, is_receiver, receivers_of, numbers_of, enters};
 ghost use Rattle.wx_machine.specs.Channels.{opens, channel, has_live, ends_channel, closes, closed_at, is_closed};
 
 use crate::channels::{end_of, opens};
 use crate::contexts::{brings, came, has_left, is_live, is_receiver, leaves};
 use wx_id::{ChannelNo, ContextNo, End};
-use wx_machine::{Answer, Call, Entry, Target, Who};
+use wx_machine::{Answer, Call, Entry, Sort, Target, Who};
 
 /// Context c lives after the entry.
 #[tactic(auto, using(crate::proofs::Past::came_more))]
@@ -29,11 +29,11 @@ fn receives_and_lives(
     before: &[Entry],
     e: &Entry,
 ) -> bool
-    ensures { result ≡ list_any (is_live (e.now ∷ reverse before.now)) (filter (is_receiver (reverse at.now) opener target Connection) (numbers_of (enters f.now))) }
+    ensures { result ≡ list_any (is_live (e.now ∷ reverse before.now)) (filter (is_receiver (reverse at.now) opener target Sort.Connection) (numbers_of (enters f.now))) }
 {
     match (&f.who, &f.call, &f.answer) {
         (Who::Context(_), Call::Enter(_), Answer::Entered(n)) => {
-            is_receiver(at, opener, target, *n) && is_live_after(before, e, *n)
+            is_receiver(at, opener, target, Sort::Connection, *n) && is_live_after(before, e, *n)
         }
         _ => false,
     }
@@ -48,7 +48,7 @@ fn some_receiver_lives(
     before: &[Entry],
     e: &Entry,
 ) -> bool
-    ensures { result ≡ list_any (is_live (e.now ∷ reverse before.now)) (receivers_of (reverse at.now) opener target Connection) }
+    ensures { result ≡ list_any (is_live (e.now ∷ reverse before.now)) (receivers_of (reverse at.now) opener target Sort.Connection) }
 {
     let mut any = false;
     for f in at {

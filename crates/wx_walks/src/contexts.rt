@@ -2,10 +2,10 @@
 ghost use Rattle.std.specs.Prelude.{◌≡◌, ◌&&◌, bytes_eq, filter, true, reverse, option_copied};
 ghost use Rattle.std.specs.Option.{option_or};
 ghost use Rattle.std.specs.List.{list_any};
-ghost use Rattle.wx_machine.specs.Contexts.{is_by, is_there, if_numbered, enters, context_of, has_left, is_live, is_leave, contexts, listens_of, listens_after, extension_of, is_extension, hears, names, names_if, is_receiver, receivers_of, numbers_of, Connection};
+ghost use Rattle.wx_machine.specs.Contexts.{is_by, is_there, if_numbered, enters, context_of, has_left, is_live, is_leave, contexts, listens_of, listens_after, extension_of, is_extension, hears, names, names_if, is_receiver, receivers_of, numbers_of};
 
 use wx_id::{ContextNo, ExtensionId};
-use wx_machine::{Answer, Call, Context, Entry, Listens, Target, Who};
+use wx_machine::{Answer, Call, Context, Entry, Listens, Sort, Target, Who};
 
 /// The entry brings context c in.
 pub fn brings(e: &Entry, c: ContextNo) -> bool
@@ -183,54 +183,72 @@ pub fn names(own: Option<&ExtensionId>, target: Target, y: &Context) -> bool
     }
 }
 
-/// Whether one who listens so hears a connection.
-pub fn hears(l: Listens) -> bool
-    ensures { result ≡ hears Connection l }
+/// Whether one who listens so hears that sort.
+pub fn hears(sort: Sort, l: Listens) -> bool
+    ensures { result ≡ hears sort l }
 {
-    l.connect
+    match sort {
+        Sort::Connection => l.connect,
+        Sort::Message => l.message,
+    }
 }
 
-fn names_if(x: Option<&Context>, target: Target, y: Option<&Context>, l: Listens) -> bool
-    ensures { result ≡ names_if (option_copied x.entry) target Connection (option_copied y.entry) l }
+fn names_if(
+    x: Option<&Context>,
+    target: Target,
+    sort: Sort,
+    y: Option<&Context>,
+    l: Listens,
+) -> bool
+    ensures { result ≡ names_if (option_copied x.entry) target sort (option_copied y.entry) l }
 {
     match (x, y) {
-        (Some(x), Some(y)) => names(extension_of(x), target, y) && hears(l),
+        (Some(x), Some(y)) => names(extension_of(x), target, y) && hears(sort, l),
         _ => false,
     }
 }
 
-/// Whether context d is a receiver of a connection from c to the target.
-pub fn is_receiver(entries: &[Entry], c: ContextNo, target: Target, d: ContextNo) -> bool
-    ensures { result ≡ is_receiver (reverse entries.now) c target Connection d }
+/// Whether context d is a receiver of what c sends to the target.
+pub fn is_receiver(
+    entries: &[Entry],
+    c: ContextNo,
+    target: Target,
+    sort: Sort,
+    d: ContextNo,
+) -> bool
+    ensures { result ≡ is_receiver (reverse entries.now) c target sort d }
 {
     d != c
         && is_live(entries, d)
         && names_if(
             context_of(entries, c),
             target,
+            sort,
             context_of(entries, d),
             listens_of(entries, d),
         )
 }
 
 /// Whether the entry f brings in a context that is a receiver.
-fn brings_receiver(at: &[Entry], c: ContextNo, target: Target, f: &Entry) -> bool
-    ensures { result ≡ list_any (λ _. true) (filter (is_receiver (reverse at.now) c target Connection) (numbers_of (enters f.now))) }
+fn brings_receiver(at: &[Entry], c: ContextNo, target: Target, sort: Sort, f: &Entry) -> bool
+    ensures { result ≡ list_any (λ _. true) (filter (is_receiver (reverse at.now) c target sort) (numbers_of (enters f.now))) }
 {
     match (&f.who, &f.call, &f.answer) {
-        (Who::Context(_), Call::Enter(_), Answer::Entered(n)) => is_receiver(at, c, target, *n),
+        (Who::Context(_), Call::Enter(_), Answer::Entered(n)) => is_receiver(
+            at, c, target, sort, *n,
+        ),
         _ => false,
     }
 }
 
-/// The target has a receiver.
+/// The target has a receiver of that sort.
 #[tactic(auto, using(crate::proofs::Past::past_at_read, crate::proofs::ClosingLater::some_more))]
-pub fn has_receiver(at: &[Entry], c: ContextNo, target: Target) -> bool
-    ensures { result ≡ list_any (λ _. true) (receivers_of (reverse at.now) c target Connection) }
+pub fn has_receiver(at: &[Entry], c: ContextNo, target: Target, sort: Sort) -> bool
+    ensures { result ≡ list_any (λ _. true) (receivers_of (reverse at.now) c target sort) }
 {
     let mut any = false;
     for f in at {
-        any = any || brings_receiver(at, c, target, f);
+        any = any || brings_receiver(at, c, target, sort, f);
     }
     any
 }

@@ -3,14 +3,16 @@ ghost use Rattle.std.specs.Prelude.{◌≡◌, filter, length, map, reverse, fla
 ghost use Rattle.std.specs.Option.{option_or};
 ghost use Rattle.std.specs.List.{list_any, range_with_len};
 ghost use Rattle.wx_machine.specs.Channels.{channels, channel, opens, end_in};
+ghost use Rattle.wx_machine.specs.Requests.{requests, asks};
 ghost use Rattle.wx_machine.specs.Contexts.{is_by};
-ghost use Rattle.wx_machine.specs.Events.{connected, message, disconnected_on, disconnected, delivered, taken, goes_to, is_dropped, drops_by, is_of, is_waiting, same_event, same_kind, event_in, pending, first, marked, on, is_receiving};
+ghost use Rattle.wx_machine.specs.Events.{connected, message, disconnected_on, disconnected, asked, replied, unanswered_on, unanswered, of_channels, of_requests, delivered, taken, goes_to, is_dropped, drops_by, is_of, is_waiting, same_event, same_kind, event_in, pending, first, marked, on, is_receiving};
 
-use crate::channels;
 use crate::channels::{end_at_opening, end_of};
 use crate::closing::closes;
 use crate::contexts::{is_by, is_live};
-use wx_id::{ChannelNo, ContextNo, End, EntryNo, Event, EventKind};
+use crate::requests::{is_asked_at, is_asker, settles};
+use crate::{channels, requests};
+use wx_id::{ChannelNo, ContextNo, End, EntryNo, Event, EventKind, RequestNo};
 use wx_machine::{Answer, Call, Entry, Who};
 
 fn same_kind(a: EventKind, b: EventKind) -> bool
@@ -20,6 +22,9 @@ fn same_kind(a: EventKind, b: EventKind) -> bool
         (EventKind::Connected(k), EventKind::Connected(j)) => k == j,
         (EventKind::Message(k), EventKind::Message(j)) => k == j,
         (EventKind::Disconnected(k), EventKind::Disconnected(j)) => k == j,
+        (EventKind::Asked(r), EventKind::Asked(s)) => r == s,
+        (EventKind::Replied(r), EventKind::Replied(s)) => r == s,
+        (EventKind::Closed(r), EventKind::Closed(s)) => r == s,
         _ => false,
     }
 }
@@ -36,6 +41,7 @@ fn is_of(kind: EventKind, k: ChannelNo) -> bool
 {
     match kind {
         EventKind::Connected(j) | EventKind::Message(j) | EventKind::Disconnected(j) => j == k,
+        EventKind::Asked(_) | EventKind::Replied(_) | EventKind::Closed(_) => false,
     }
 }
 
@@ -185,7 +191,7 @@ fn first_of(a: Option<Event>, b: Option<Event>) -> Option<Event>
 }
 
 /// The first end of any channel of which the entry tells context c and that waits.
-#[tactic(auto, using(crate::proofs::EventsLater::disconnected_more, crate::proofs::EventsLater::first_events))]
+#[tactic(auto, using(crate::proofs::EventsLater::numbers_more, crate::proofs::EventsLater::first_events))]
 fn waiting_every_disconnected(
     entries: &[Entry],
     i: usize,
@@ -241,8 +247,141 @@ fn waiting_connected(
     }
 }
 
+/// The first event that the entry tells context c of channels and that waits.
+#[tactic(auto, using(crate::proofs::EventsLater::channels_first))]
+fn waiting_of_channels(
+    entries: &[Entry],
+    i: usize,
+    before: &[Entry],
+    e: &Entry,
+    c: ContextNo,
+) -> Option<Event>
+    ensures { result ≡ first (filter (is_waiting (reverse entries.now) c) (map (marked i) (of_channels (reverse before.now) e.now c))) }
+{
+    let opened = waiting_connected(entries, i, before, e, c);
+    let posted = waiting_message(entries, i, before, e, c);
+    let ended = waiting_disconnected(entries, i, before, e, c);
+    first_of(first_of(opened, posted), ended)
+}
+
+/// The request that the entry sends to context c, if it waits. Requests are counted only where one is.
+fn waiting_asked(
+    entries: &[Entry],
+    i: usize,
+    before: &[Entry],
+    e: &Entry,
+    c: ContextNo,
+) -> Option<Event>
+    ensures { result ≡ first (filter (is_waiting (reverse entries.now) c) (map (marked i) (asked (length (requests (reverse before.now))) (asks (reverse before.now) e.now) c))) }
+{
+    if is_asked_at(before, e, c) {
+        let r = RequestNo(requests::count(before));
+        waiting_if(true, entries, i, c, EventKind::Asked(r))
+    } else {
+        None
+    }
+}
+
+/// The reply that the entry sends to context c, if it waits.
+fn waiting_replied(
+    entries: &[Entry],
+    i: usize,
+    before: &[Entry],
+    e: &Entry,
+    c: ContextNo,
+) -> Option<Event>
+    ensures { result ≡ first (filter (is_waiting (reverse entries.now) c) (map (marked i) (replied (reverse before.now) e.now.call e.now.answer c))) }
+{
+    match (&e.call, &e.answer) {
+        (Call::Reply(r, _), Answer::First) => waiting_if(
+            is_asker(before, *r, c),
+            entries,
+            i,
+            c,
+            EventKind::Replied(*r),
+        ),
+        _ => None,
+    }
+}
+
+/// That request r is settled without a reply, if the entry tells context c of it and it waits.
+fn waiting_unanswered_on(
+    entries: &[Entry],
+    i: usize,
+    before: &[Entry],
+    e: &Entry,
+    c: ContextNo,
+    r: RequestNo,
+) -> Option<Event>
+    ensures { result ≡ first (filter (is_waiting (reverse entries.now) c) (map (marked i) (unanswered_on (reverse before.now) e.now c r.0))) }
+{
+    waiting_if(
+        !is_by(e.who, c) && is_asker(before, r, c) && settles(before, e, r),
+        entries,
+        i,
+        c,
+        EventKind::Closed(r),
+    )
+}
+
+/// The first of any request that the entry settles without a reply, tells context c of, and that waits.
+#[tactic(auto, using(crate::proofs::EventsLater::numbers_more, crate::proofs::EventsLater::first_events))]
+fn waiting_every_unanswered(
+    entries: &[Entry],
+    i: usize,
+    before: &[Entry],
+    e: &Entry,
+    c: ContextNo,
+) -> Option<Event>
+    ensures { result ≡ first (filter (is_waiting (reverse entries.now) c) (map (marked i) (flat_map (unanswered_on (reverse before.now) e.now c) (range_with_len 0 (length (requests (reverse before.now))))))) }
+{
+    let mut found = None;
+    for r in 0..requests::count(before) {
+        found = first_of(
+            found,
+            waiting_unanswered_on(entries, i, before, e, c, RequestNo(r)),
+        );
+    }
+    found
+}
+
+/// The first request that the entry settles without a reply, of which it tells context c and that waits. Only a
+/// leave can settle more than one.
+fn waiting_unanswered(
+    entries: &[Entry],
+    i: usize,
+    before: &[Entry],
+    e: &Entry,
+    c: ContextNo,
+) -> Option<Event>
+    ensures { result ≡ first (filter (is_waiting (reverse entries.now) c) (map (marked i) (unanswered (reverse before.now) e.now e.now.call c))) }
+{
+    match &e.call {
+        Call::Decline(r) => waiting_unanswered_on(entries, i, before, e, c, *r),
+        Call::Leave => waiting_every_unanswered(entries, i, before, e, c),
+        _ => None,
+    }
+}
+
+/// The first event that the entry tells context c of requests and that waits.
+#[tactic(auto, using(crate::proofs::EventsLater::requests_first))]
+fn waiting_of_requests(
+    entries: &[Entry],
+    i: usize,
+    before: &[Entry],
+    e: &Entry,
+    c: ContextNo,
+) -> Option<Event>
+    ensures { result ≡ first (filter (is_waiting (reverse entries.now) c) (map (marked i) (of_requests (reverse before.now) e.now c))) }
+{
+    let made = waiting_asked(entries, i, before, e, c);
+    let replied = waiting_replied(entries, i, before, e, c);
+    let unanswered = waiting_unanswered(entries, i, before, e, c);
+    first_of(first_of(made, replied), unanswered)
+}
+
 /// The first event that the entry i delivers to context c and that waits.
-#[tactic(auto, using(crate::proofs::EventsLater::delivered_first))]
+#[tactic(auto, using(crate::proofs::EventsLater::first_events, crate::proofs::Past::length_past))]
 fn waiting_of(
     entries: &[Entry],
     i: usize,
@@ -253,10 +392,9 @@ fn waiting_of(
     requires { i ≡ length before.now }
     ensures { result ≡ first (filter (is_waiting (reverse entries.now) c) (delivered (reverse before.now) e.now c)) }
 {
-    let opened = waiting_connected(entries, i, before, e, c);
-    let posted = waiting_message(entries, i, before, e, c);
-    let ended = waiting_disconnected(entries, i, before, e, c);
-    first_of(first_of(opened, posted), ended)
+    let of_channels = waiting_of_channels(entries, i, before, e, c);
+    let of_requests = waiting_of_requests(entries, i, before, e, c);
+    first_of(of_channels, of_requests)
 }
 
 /// The event that was found, or else the first that the entry i delivers and that waits.

@@ -6,3 +6,4 @@ pub mod channels;
 pub mod closing;
 pub mod contexts;
 pub mod events;
+pub mod requests;

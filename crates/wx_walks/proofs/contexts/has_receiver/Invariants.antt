@@ -1,9 +1,9 @@
 use Rattle.std.proofs.Common.{◌≡◌, take}
 use Rattle.std.specs.Prelude.{reverse, filter, true}
 use Rattle.std.specs.List.{list_any}
-use Rattle.wx_machine.specs.Contexts.{is_receiver, numbers, Connection}
+use Rattle.wx_machine.specs.Contexts.{is_receiver, numbers}
 use Rattle.wx_walks.proofs.contexts.has_receiver.Given as goal
 
 abbrev pub invariant-loop-f : goal.invariant-loop-f
 invariant-loop-f l =
-    l.any ≡ list_any (λ _. true) (filter (is_receiver (reverse l.at) l.c l.target Connection) (numbers (reverse (take l.f-index l.at))))
+    l.any ≡ list_any (λ _. true) (filter (is_receiver (reverse l.at) l.c l.target l.sort) (numbers (reverse (take l.f-index l.at))))

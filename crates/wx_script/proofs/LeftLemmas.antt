@@ -1,0 +1,224 @@
+-- An endpoint has ended exactly where its context has left.
+use Rattle.std.proofs.Common.{◌≡◌, ℕ, zero, suc, cond, true, false, Bool, List, [], ◌∷◌, Option, Some, None, refl, sym, ap, ◌∙◌, subst, eqb}
+use Rattle.std.specs.Prelude.{slice_get, IsTrue, ◌&&◌, ◌||◌, not, is_none}
+use native.Mathlib.Omega.{arith}
+use Rattle.std.proofs.lemmas.Bool.{eqb-true, eq-eqb}
+use Rattle.wx_id.specs.declared.numbers.ContextNo.{ContextNo}
+use Rattle.wx_id.specs.declared.numbers.ChannelNo.{ChannelNo}
+use Rattle.wx_machine.specs.declared.world.World.{World}
+use Rattle.wx_machine.specs.declared.entries.Who.{Who}
+use Rattle.wx_machine.specs.declared.entries.Who.TheVariants.{Context as ByContext}
+use Rattle.wx_machine.specs.declared.entries.Call.{Call}
+use Rattle.wx_machine.specs.declared.entries.Call.TheVariants as call
+use Rattle.wx_machine.specs.declared.entries.Answer.{Answer}
+use Rattle.wx_machine.specs.declared.entries.Entry.{Entry}
+use Rattle.wx_machine.specs.Contexts.{is_by, is_leave, is_enter, is_there, context_of, has_left, enters, if_numbered, brought}
+use Rattle.wx_machine.specs.Answers.{FollowsMachine, may_make, answer_after}
+use Rattle.wx_machine.specs.declared.contexts.Context.{Context}
+use Rattle.std.specs.Option.{option_or}
+use Rattle.wx_machine.specs.Each.{EachAfter}
+use Rattle.wx_script.specs.declared.script.Act.{Act}
+use Rattle.wx_script.specs.declared.script.Act.TheVariants as act
+use Rattle.wx_script.specs.declared.script.Command.{Command}
+use Rattle.wx_script.specs.Places.{Place, outside, within, left, Progress, unbegun, echoing, answering, Next, enters as comes, asks, waits, ends, Variables, begins_with, unskipped, asks_first, or_ends, asks_answer, next_at, next_of, place_of, place_behind, behind_first, behind_act, behind_await, behind_answer, behind_event, event_in}
+use Rattle.wx_script.specs.Carries.{MayCome, AskedOf, FollowsScript, IsAskedOf}
+use Rattle.wx_script.specs.Ends.{is_end, has_ended}
+
+unended_next : (variables : Variables) (a : Act) (n : Next) → begins_with variables a ≡ Some n → is_end n ≡ false
+unended_next variables a n is = grind arith
+
+-- what is left in front is not passed over
+unended_first : (variables : Variables) (acts : List Act) → is_end (asks_first variables (unskipped variables acts)) ≡ false
+unended_first variables [] = refl
+unended_first variables (a ∷ acts) =
+    elim (begins_with variables a) as (λ (b : Option Next). begins_with variables a ≡ b → is_end (asks_first variables (cond (is_none b) (unskipped variables acts) (a ∷ acts))) ≡ false) [
+      | None ↦ λ is. unended_first variables acts
+      | Some n ↦ λ is. ap (λ b. is_end (or_ends b)) is ∙ unended_next variables a n is
+    ] refl
+
+unended_answer : (k : ChannelNo) (text : Option (List ℕ)) → is_end (asks_answer k text) ≡ false
+unended_answer k None = refl
+unended_answer k (Some text) = refl
+
+-- the place behind the `leave`
+abbrev pub is_left : Place → Bool
+is_left outside = false
+is_left (within progress acts variables) = false
+is_left left = true
+
+-- nothing comes next only behind the `leave`
+end_is_left : (past : List Entry) (p : Place) → is_end (next_at past p) ≡ is_left p
+end_is_left past outside = refl
+end_is_left past (within unbegun acts variables) = unended_first variables acts
+end_is_left past (within (echoing n) acts variables) = refl
+end_is_left past (within (answering n k e) acts variables) = unended_answer k _
+end_is_left past left = refl
+
+-- what an endpoint asks for is a leave only behind its last act
+no_leave_next : (variables : Variables) (a : Act) (n : Next) → begins_with variables a ≡ Some n → (n ≡ asks call.Leave) → ⊥
+no_leave_next variables a n is same = grind arith
+
+-- an act that begins with something is not left behind by one entry
+stays_within : (variables : Variables) (answer : Answer) (a : Act) (acts : List Act) → is_left (behind_act variables answer a acts) ≡ false
+stays_within variables answer a acts = grind arith
+
+stays_in_echo : (n : ℕ) (acts : List Act) (variables : Variables) → is_left (behind_answer n acts variables) ≡ false
+stays_in_echo n acts variables = grind arith
+
+-- one more entry leaves what is ended so
+ended_still : (past : List Entry) (e : Entry) (p : Place) → is_end (next_at (e ∷ past) p) ≡ is_end (next_at past p)
+ended_still past e p = end_is_left (e ∷ past) p ∙ sym (end_is_left past p)
+
+-- ---- which calls are no leave
+
+enter_no_leave : (x : Call) → is_enter x ≡ true → is_leave x ≡ false
+enter_no_leave x is = grind arith
+
+take_no_leave : (x : Call) → x ≡ call.Take → is_leave x ≡ false
+take_no_leave x is = ap is_leave is
+
+asked_no_leave : (past : List Entry) (c : ContextNo) (e : Entry) (n : Next) → MayCome past c n e → (n ≡ asks call.Leave → ⊥) → is_leave e.call ≡ false
+asked_no_leave past c e comes may other = enter_no_leave e.call may
+asked_no_leave past c e (asks x) may other = no_leave e.call x may (λ same. other (ap asks same))
+  where
+    no_leave : (y x : Call) → y ≡ x → (x ≡ call.Leave → ⊥) → is_leave y ≡ false
+    no_leave y x same other = grind arith
+asked_no_leave past c e waits may other = take_no_leave e.call may.0
+asked_no_leave past c e ends may other = absurd may
+
+first_no_leave : (past : List Entry) (c : ContextNo) (e : Entry) (variables : Variables) (a : Act) (b : Option Next) → begins_with variables a ≡ b → MayCome past c (or_ends b) e → is_leave e.call ≡ false
+first_no_leave past c e variables a None is may = absurd may
+first_no_leave past c e variables a (Some n) is may = asked_no_leave past c e n may (no_leave_next variables a n is)
+
+answer_no_leave : (past : List Entry) (c : ContextNo) (e : Entry) (k : ChannelNo) (text : Option (List ℕ)) → MayCome past c (asks_answer k text) e → is_leave e.call ≡ false
+answer_no_leave past c e k None may = take_no_leave e.call may.0
+answer_no_leave past c e k (Some text) may = ap is_leave may
+
+-- ---- one own entry
+
+abbrev pub is_in : Place → Bool
+is_in outside = false
+is_in (within progress acts variables) = true
+is_in left = true
+
+-- a leave or none, where it was not left before
+pub record StepsOn (script : List Command) (p : Place) (e : Entry) : Type 0 where
+  pub entered : is_leave e.call ≡ true → is_in p ≡ true
+  pub leaves : is_left (place_behind script p e.answer) ≡ is_leave e.call
+  pub before : is_left p ≡ false
+
+contra : (b d : Bool) → b ≡ false → b ≡ true → d ≡ true
+contra b d is_not is_so = grind arith
+
+no_leave : (script : List Command) (p : Place) (e : Entry) → is_leave e.call ≡ false → is_left (place_behind script p e.answer) ≡ false → is_left p ≡ false → StepsOn script p e
+no_leave script p e none after before = record { entered = λ is. contra (is_leave e.call) (is_in p) none is; leaves = after ∙ sym none; before = before }
+
+steps_first : (script : List Command) (past : List Entry) (c : ContextNo) (e : Entry) (variables : Variables) (acts u : List Act) → unskipped variables acts ≡ u
+    → MayCome past c (asks_first variables u) e → is_left (behind_first variables e.answer u) ≡ is_leave e.call
+steps_first script past c e variables acts [] is may = sym (ap is_leave may)
+steps_first script past c e variables acts (a ∷ rest) is may = stays_within variables e.answer a rest ∙ sym (first_no_leave past c e variables a (begins_with variables a) refl may)
+
+steps : (script : List Command) (past : List Entry) (c : ContextNo) (p : Place) (e : Entry) → MayCome past c (next_at past p) e → StepsOn script p e
+steps script past c outside e may = no_leave script outside e (enter_no_leave e.call may) refl refl
+steps script past c (within unbegun acts variables) e may =
+    record { entered = λ is. refl; leaves = steps_first script past c e variables acts (unskipped variables acts) refl may; before = refl }
+steps script past c (within (echoing n) acts variables) e may = no_leave script (within (echoing n) acts variables) e (take_no_leave e.call may.0) refl refl
+steps script past c (within (answering n k m) acts variables) e may =
+    no_leave script (within (answering n k m) acts variables) e (answer_no_leave past c e k _ may) (stays_in_echo n acts variables) refl
+steps script past c left e may = absurd may
+
+-- ---- behind all entries
+
+-- a script has ended where its context has left, and one that was begun came in
+pub record Agrees (script : List Command) (c : ContextNo) (past : List Entry) : Type 0 where
+  pub entered : is_in (place_of script c past) ≡ true → is_there (context_of past c) ≡ true
+  pub same : is_left (place_of script c past) ≡ has_left past c
+
+either_there : (x y : Option Context) → is_there (option_or x y) ≡ (is_there x || is_there y)
+either_there None y = refl
+either_there (Some x) y = refl
+
+came_in : (world : World) (past : List Entry) (c : ContextNo) (x : Call) (answer : Answer) → is_enter x ≡ true → may_make past (ByContext c) x ≡ true
+    → answer ≡ answer_after world past (ByContext c) x → is_there (if_numbered c (brought (ByContext c) x answer)) ≡ true
+came_in world past c x answer is may answered = grind arith
+
+or_true : (a b : Bool) → b ≡ true → (a || b) ≡ true
+or_true a b is = grind arith
+
+true_or : (a b : Bool) → a ≡ true → (a || b) ≡ true
+true_or a b is = grind arith
+
+left_now : (l t v b : Bool) → l ≡ false → b ≡ true → (v ≡ true → t ≡ true) → v ≡ (l || (t && v && b))
+left_now l t v b none own there = grind arith
+
+left_before : (l t v b : Bool) → b ≡ false → l ≡ (l || (t && v && b))
+left_before l t v b other = grind arith
+
+still_there : (past : List Entry) (e : Entry) (c : ContextNo) → is_there (context_of past c) ≡ true → is_there (context_of (e ∷ past) c) ≡ true
+still_there past e c is = either_there (context_of past c) _ ∙ true_or (is_there (context_of past c)) _ is
+
+agrees_other : (script : List Command) (c : ContextNo) (past : List Entry) (e : Entry) → Agrees script c past → is_by e.who c ≡ false → Agrees script c (e ∷ past)
+unfolding place_of
+agrees_other script c past e before other =
+    let same : place_of script c (e ∷ past) ≡ place_of script c past = ap (λ b. cond b (place_behind script (place_of script c past) e.answer) (place_of script c past)) other in
+    record {
+      entered = λ is. still_there past e c (before.entered (ap is_in (sym same) ∙ is));
+      same = ap is_left same ∙ before.same ∙ left_before (has_left past c) (is_there (context_of past c)) (is_leave e.call) (is_by e.who c) other;
+    }
+
+-- the place before was outside, or its context came in
+came_first : (world : World) (script : List Command) (c : ContextNo) (past : List Entry) (e : Entry) (p : Place) → e.who ≡ ByContext c → MayCome past c (next_at past p) e
+    → FollowsMachine world past e → (is_in p ≡ true → is_there (context_of past c) ≡ true) → is_there (context_of (e ∷ past) c) ≡ true
+came_first world script c past e outside own may follows there =
+    let makes : may_make past (ByContext c) e.call ≡ true = subst (λ w. may_make past w e.call ≡ true) own follows.may in
+    let says : e.answer ≡ answer_after world past (ByContext c) e.call = subst (λ w. e.answer ≡ answer_after world past w e.call) own follows.answered in
+    let here : is_there (if_numbered c (brought (ByContext c) e.call e.answer)) ≡ true = came_in world past c e.call e.answer may makes says in
+    let now : is_there (if_numbered c (enters e)) ≡ true = subst (λ w. is_there (if_numbered c (brought w e.call e.answer)) ≡ true) (sym own) here in
+    either_there (context_of past c) _ ∙ or_true (is_there (context_of past c)) _ now
+came_first world script c past e (within progress acts variables) own may follows there = still_there past e c (there refl)
+came_first world script c past e left own may follows there = still_there past e c (there refl)
+
+is_by-own : (who : Who) (c : ContextNo) → who ≡ ByContext c → is_by who c ≡ true
+is_by-own who c own = ap (λ w. is_by w c) own ∙ eq-eqb c.0 c.0 refl
+
+agrees_own : (world : World) (script : List Command) (c : ContextNo) (past : List Entry) (e : Entry) → Agrees script c past → e.who ≡ ByContext c
+    → MayCome past c (next_of script c past) e → FollowsMachine world past e → Agrees script c (e ∷ past)
+unfolding place_of
+agrees_own world script c past e before own may follows =
+    let mine : is_by e.who c ≡ true = is_by-own e.who c own in
+    let p : Place = place_of script c past in
+    let here : place_of script c (e ∷ past) ≡ place_behind script p e.answer = ap (λ b. cond b (place_behind script p e.answer) p) mine in
+    let on : StepsOn script p e = steps script past c p e may in
+    let none : has_left past c ≡ false = sym before.same ∙ on.before in
+    record {
+      entered = λ is. came_first world script c past e p own may follows before.entered;
+      same = ap is_left here ∙ on.leaves ∙ left_now (has_left past c) (is_there (context_of past c)) (is_leave e.call) (is_by e.who c) none mine (λ v. before.entered (on.entered v));
+    }
+
+same_script : (scripts : List (List Command)) (n : ℕ) (s t : List Command) → slice_get scripts n ≡ Some s → slice_get scripts n ≡ Some t → s ≡ t
+same_script scripts n s t is at = cc
+
+same_number : (d c : ContextNo) → (eqb d.0 c.0) ≡ true → d ≡ c
+same_number d c is = let number : d.0 ≡ c.0 = eqb-true d.0 c.0 is in let make : ℕ → ContextNo = λ n. record { 0 = n } in ap make number
+
+asked_of : (scripts : List (List Command)) (past : List Entry) (script : List Command) (c : ContextNo) (e : Entry) (who : Who) → AskedOf scripts past who e → is_by who c ≡ true
+    → slice_get scripts c.0 ≡ Some script → (who ≡ ByContext c) × MayCome past c (next_of script c past) e
+asked_of scripts past script c e (ByContext d) asked mine at =
+    let same : d ≡ c = same_number d c mine in
+    let of_c : IsAskedOf scripts past c e = subst (λ d. IsAskedOf scripts past d e) same asked in
+    (ap ByContext same, subst (λ s. MayCome past c (next_of s c past) e) (same_script scripts c.0 of_c.script script of_c.is_endpoint at) of_c.asked)
+
+agrees : (world : World) (scripts : List (List Command)) (script : List Command) (c : ContextNo) (past : List Entry)
+    → EachAfter (FollowsMachine world) past → EachAfter (FollowsScript scripts) past → slice_get scripts c.0 ≡ Some script → Agrees script c past
+unfolding place_of
+agrees world scripts script c [] legal follows at = record { entered = λ is. contra false _ refl is; same = refl }
+agrees world scripts script c (e ∷ past) legal follows at =
+    let before : Agrees script c past = agrees world scripts script c past legal.0 follows.0 at in
+    elim (is_by e.who c) as (λ (b : Bool). is_by e.who c ≡ b → Agrees script c (e ∷ past)) [
+      | true ↦ λ is. let asked = asked_of scripts past script c e e.who follows.1 is at in agrees_own world script c past e before asked.0 asked.1 legal.1
+      | false ↦ λ is. agrees_other script c past e before is
+    ] refl
+
+pub ended_left : (world : World) (scripts : List (List Command)) (script : List Command) (c : ContextNo) (past : List Entry)
+    → EachAfter (FollowsMachine world) past → EachAfter (FollowsScript scripts) past → slice_get scripts c.0 ≡ Some script → has_ended script c past ≡ has_left past c
+ended_left world scripts script c past legal follows at = end_is_left past (place_of script c past) ∙ (agrees world scripts script c past legal follows at).same
