@@ -1,6 +1,7 @@
 ghost use Rattle.std.specs.Prelude.{◌≡◌, ◌+◌, ◌<◌, ◌≤◌, IsOk, reverse, [], OnErr, IfOk, IfErr};
 ghost use Rattle.wx_machine.specs.Contexts.{contexts};
 ghost use Rattle.wx_machine.specs.Answers.{answer_of, IsLegal};
+ghost use Rattle.wx_machine.specs.Events.{has_pending};
 ghost use Rattle.wx_broker.specs.Carried.{is_event};
 ghost use Rattle.wx_broker.specs.Steps.{Appends, Stays};
 
@@ -259,7 +260,8 @@ impl Broker {
     /// Whether a take of context c would now be answered with an event.
     pub fn ready(&self, c: ContextNo) -> bool
         requires { c.0 < contexts (reverse self.now.entries) }
-        ensures { result ≡ is_event (answer_of self.now.world self.now.entries (Who.Context c) Call.Take) }
+        ensures event { result ≡ is_event (answer_of self.now.world self.now.entries (Who.Context c) Call.Take) }
+        ensures pending { result ≡ has_pending (reverse self.now.entries) c }
     {
         matches!(answers::take(self.journal.entries(), c), Answer::Event(_))
     }

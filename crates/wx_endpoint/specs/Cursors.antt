@@ -1,14 +1,15 @@
 -- The place that a cursor's fields say.
-use Rattle.std.specs.Prelude.{ℕ, Bool, List, [], ◌∷◌, ◌++◌, replicate, Option, if◌then◌else◌}
+use Rattle.std.specs.Prelude.{ℕ, List, [], ◌∷◌, ◌++◌, replicate, Option}
 use Rattle.wx_id.specs.declared.numbers.ChannelNo.{ChannelNo}
 use Rattle.wx_script.specs.declared.script.Act.{Act}
+use Rattle.wx_script.specs.declared.script.Act.TheVariants as act
 use Rattle.wx_script.specs.declared.script.Command.{Command}
 use Rattle.wx_script.specs.declared.script.Command.TheVariants.{Plain, Repeat}
 use Rattle.wx_script.specs.Acts.{acts_of}
-use Rattle.wx_script.specs.Places as places
-use Rattle.wx_script.specs.Places.{Place, left, within}
-use Rattle.wx_endpoint.specs.declared.cursor.Progress.{Progress}
-use Rattle.wx_endpoint.specs.declared.cursor.Progress.TheVariants.{Unbegun, Echoing, Answering}
+use Rattle.wx_script.specs.Places.{Variables, Place, left, within, unbegun, echoing, answering}
+use Rattle.wx_endpoint.specs.declared.position.Rest.{Rest}
+use Rattle.wx_endpoint.specs.declared.position.Position.{Position}
+use Rattle.wx_endpoint.specs.declared.position.Position.TheVariants.{Unbegun, Echoing, Answering, Left}
 
 -- the act of a command
 abbrev pub act_in : Command → Act
@@ -26,11 +27,25 @@ abbrev pub acts_left : List Command → ℕ → List Act
 acts_left [] times = []
 acts_left (c ∷ commands) times = replicate times (act_in c) ++ acts_of commands
 
-abbrev pub progress_at : Progress → places.Progress
-progress_at Unbegun = places.unbegun
-progress_at (Echoing n) = places.echoing n
-progress_at (Answering n k e) = places.answering n k e
+abbrev pub acts_in : Rest → List Act
+acts_in rest = acts_left rest.commands.now rest.times
 
-abbrev pub place_at : Bool → Progress → List Command → ℕ → List (Option ChannelNo) → Place
-place_at has_left progress commands times channels =
-    if has_left then left else within (progress_at progress) (acts_left commands times) (record { channels = channels })
+-- each variable, and the channel to which it is set
+abbrev pub set_to : List (Option ChannelNo) → Variables
+set_to channels = record { channels = channels }
+
+abbrev pub place_at : Position → List (Option ChannelNo) → Place
+place_at (Unbegun rest) channels = within unbegun (acts_in rest) (set_to channels)
+place_at (Echoing echo behind) channels = within (echoing echo.left) (act.Echo echo.of ∷ acts_in behind) (set_to channels)
+place_at (Answering echo behind k e) channels = within (answering echo.left k e) (act.Echo echo.of ∷ acts_in behind) (set_to channels)
+place_at Left channels = left
+
+-- the acts behind the first
+abbrev pub acts_behind : List Act → List Act
+acts_behind [] = []
+acts_behind (a ∷ acts) = acts
+
+-- the commands behind the first
+abbrev pub commands_behind : List Command → List Command
+commands_behind [] = []
+commands_behind (c ∷ commands) = commands

@@ -12,40 +12,45 @@ pub struct BrokerDesk {
 }
 
 impl Desk for BrokerDesk {
-    ghost use Rattle.std.specs.Prelude.{reverse, true};
-    ghost use Rattle.wx_endpoint.specs.History.{seen_by};
+    ghost use Rattle.wx_endpoint.specs.BrokerDesks.{desk_over};
 
-    ghost state = { λ desk. record { context = desk.context; world = desk.broker.world; history = seen_by desk.context (reverse desk.broker.entries); alone = true } };
+    ghost state = { λ desk. desk_over desk.context desk.broker };
 
-    fn listen(&mut self, _l: Listens) -> Result<Answer, NoMemory> {
-        Err(NoMemory)
+    fn listen(&mut self, l: Listens) -> Result<Answer, NoMemory> {
+        self.broker.listen(self.context, l)
     }
 
     fn leave(&mut self) -> Result<Answer, NoMemory> {
-        Err(NoMemory)
+        self.broker.leave(self.context)
     }
 
-    fn connect(&mut self, _target: Target, name: Utf8Text) -> Result<Answer, Utf8Text> {
-        Err(name)
+    fn connect(&mut self, target: Target, name: Utf8Text) -> Result<Answer, Utf8Text> {
+        self.broker.connect(self.context, target, name)
     }
 
-    fn post(&mut self, _k: ChannelNo, text: JsonText) -> Result<Answer, JsonText> {
-        Err(text)
+    fn post(&mut self, k: ChannelNo, text: JsonText) -> Result<Answer, JsonText> {
+        self.broker.post(self.context, k, text)
     }
 
-    fn disconnect(&mut self, _k: ChannelNo) -> Result<Answer, NoMemory> {
-        Err(NoMemory)
+    fn disconnect(&mut self, k: ChannelNo) -> Result<Answer, NoMemory> {
+        self.broker.disconnect(self.context, k)
     }
 
     fn take(&mut self) -> Result<Answer, NoMemory> {
-        Err(NoMemory)
+        self.broker.take(self.context)
     }
 
     fn take_ready(&mut self) -> Result<Option<Answer>, NoMemory> {
-        Err(NoMemory)
+        if !self.broker.ready(self.context) {
+            return Ok(None);
+        }
+        Ok(Some(self.broker.take(self.context)?))
     }
 
-    fn copy_of(&mut self, _e: EntryNo) -> Result<Option<JsonText>, NoMemory> {
-        Err(NoMemory)
+    fn copy_of(&mut self, e: EntryNo) -> Result<Option<JsonText>, NoMemory> {
+        match self.broker.journal().text_of(e) {
+            Some(text) => Ok(Some(text.try_clone()?)),
+            None => Ok(None),
+        }
     }
 }

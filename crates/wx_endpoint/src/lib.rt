@@ -1,9 +1,13 @@
 //! An endpoint's way through its script: a cursor, and the desk at which it makes its calls.
 #![tactic(auto)]
 
+mod asked;
 mod broker_desk;
 mod cursor;
 mod desk;
+mod passing;
+mod performing;
+mod position;
 mod turns;
 
 pub use broker_desk::BrokerDesk;

@@ -4,6 +4,8 @@ ghost use Rattle.wx_endpoint.specs.Turn.{StandsBehind, IsTurn};
 
 use crate::cursor::{Cursor, Turned};
 use crate::desk::Desk;
+use crate::performing::perform;
+use wx_id::NoMemory;
 
 /// One turn of an endpoint: the call that its script asks for, or the take of a wait where an event is pending, or
 /// nothing.
@@ -15,5 +17,18 @@ pub fn turn<D: Desk>(cursor: &mut Cursor<'_>, desk: &mut D) -> Turned
     ensures sound { IsSound (D.state desk.new) }
     ensures same_script { cursor.new.script ≡ cursor.old.script }
 {
-    Turned::NoMemory
+    let Some(step) = cursor.step() else {
+        return Turned::Ended;
+    };
+    if cursor.is_spent() {
+        return Turned::Spent;
+    }
+    match perform(desk, step) {
+        Ok(Some(answer)) => {
+            cursor.pass(step, answer);
+            Turned::Moved
+        }
+        Ok(None) => Turned::Waits,
+        Err(NoMemory) => Turned::NoMemory,
+    }
 }
