@@ -58,17 +58,18 @@ fn stalled_lines(
 {
     let mut lines = Vec::new(alloc);
     for (n, endpoint) in endpoints.iter().enumerate() {
-        put_unless_left(&mut lines, entries, ContextNo(n as u64), endpoint.name.as_str())?;
+        put_unless_left(
+            &mut lines,
+            entries,
+            ContextNo(n as u64),
+            endpoint.name.as_str(),
+        )?;
     }
     Ok(lines)
 }
 
 /// The line of the endpoint that is spent.
-fn spent_line(
-    alloc: Global,
-    endpoints: &[SceneEndpoint],
-    n: u64,
-) -> Result<Vec<u8>, AllocError>
+fn spent_line(alloc: Global, endpoints: &[SceneEndpoint], n: u64) -> Result<Vec<u8>, AllocError>
     ensures { IfOk result (λ line. line.items ≡ endings.spent_line (slice_get endpoints.now n)) }
 {
     let mut line = Vec::new(alloc);

@@ -1,9 +1,12 @@
+use crate::endings::lines_of_end;
 use crate::wx;
 use std::alloc::{AllocError, Global};
 use std::test::Fail;
+use wx_journal::Journal;
 use wx_match_pattern::{PatternFault, PatternKind};
 use wx_outside::{MemoryFile, MemoryShelf, MemorySink};
-use wx_script::SceneKind;
+use wx_run::{RunEnd, SpentWho};
+use wx_script::{Scene, SceneKind};
 use wx_status::{InputKind, Status};
 
 /// Room for every text of these tests.
@@ -388,12 +391,7 @@ fn no_scenes(rt: HostRuntime) -> Result<(), Fail> {
     let alloc = rt.alloc();
     // A scene's text; the first faulty line, what is wrong with it, and the line that tells it.
     let cases = [
-        (
-            "",
-            1,
-            SceneKind::Head,
-            "wx: scene refused: line 1: head\n",
-        ),
+        ("", 1, SceneKind::Head, "wx: scene refused: line 1: head\n"),
         (
             "wx scene 1 mdn\n",
             1,
@@ -532,6 +530,111 @@ fn faults(rt: HostRuntime) -> Result<(), Fail> {
     Ok(())
 }
 
+/// A page that waits for a connection which never comes.
+const STALLED: &str = "wx scene 1 chrome
+extension x aaaaaaaaaaaaaaaaaaaaaaaaaaaaaaaa
+page p x /p
+  take
+  await connect ch
+";
+
+const STALLED_JOURNAL: &str = "wx journal 1 chrome
+c0 enter page aaaaaaaaaaaaaaaaaaaaaaaaaaaaaaaa 2:/p -> context 0
+c0 take -> empty
+";
+
+/// The same beside one that ends and one that waits for a message.
+const TWO_STALLED: &str = "wx scene 1 chrome
+extension x aaaaaaaaaaaaaaaaaaaaaaaaaaaaaaaa
+page p x /p
+  await connect ch
+page q x /q
+page r x /r
+  listen connect
+  await connect ch
+  await message ch
+page s x /s
+  connect ch own
+  await close ch
+";
+
+const TWO_STALLED_JOURNAL: &str = "wx journal 1 chrome
+c0 enter page aaaaaaaaaaaaaaaaaaaaaaaaaaaaaaaa 2:/p -> context 0
+c1 enter page aaaaaaaaaaaaaaaaaaaaaaaaaaaaaaaa 2:/q -> context 1
+c2 enter page aaaaaaaaaaaaaaaaaaaaaaaaaaaaaaaa 2:/r -> context 2
+c2 listen c--- -> done
+c3 enter page aaaaaaaaaaaaaaaaaaaaaaaaaaaaaaaa 2:/s -> context 3
+c1 leave -> done
+c3 connect own 0: -> channel 0
+c2 take -> connected 0 6
+";
+
+/// A run that stalls writes its journal whole, and then a line for each endpoint that has not ended.
+#[test]
+fn stalled_runs(rt: HostRuntime) -> Result<(), Fail> {
+    let alloc = rt.alloc();
+    let cases = [
+        (
+            STALLED,
+            (AMPLE, AMPLE),
+            Status::Stalled,
+            STALLED_JOURNAL,
+            "wx: stalled: p\n",
+        ),
+        (
+            TWO_STALLED,
+            (AMPLE, AMPLE),
+            Status::Stalled,
+            TWO_STALLED_JOURNAL,
+            "wx: stalled: p\nwx: stalled: r\nwx: stalled: s\n",
+        ),
+        (
+            STALLED,
+            (AMPLE, 5),
+            Status::WriteFault,
+            STALLED_JOURNAL,
+            "wx: s",
+        ),
+        (
+            STALLED,
+            (3, AMPLE),
+            Status::WriteFault,
+            "wx ",
+            "wx: write fault\n",
+        ),
+    ];
+    for (scene, room, status, journal, lines) in cases {
+        let mut shelf = shelf_of(alloc, Vec::from_slice(alloc, scene.as_bytes())?)?;
+        let mut out = sink_of(alloc, room.0);
+        let mut err = sink_of(alloc, room.1);
+        assert_eq!(rt;
+            answer(alloc, &RUN, &mut shelf, &mut out, &mut err)?,
+            status
+        );
+        assert_eq!(rt; str::from_utf8(&out.bytes), Ok(journal));
+        assert_eq!(rt; str::from_utf8(&err.bytes), Ok(lines));
+    }
+    Ok(())
+}
+
+/// The line of an endpoint that is spent names it; where the run is done there is none.
+#[test]
+fn lines_of_ends(rt: HostRuntime) -> Result<(), Fail> {
+    let alloc = rt.alloc();
+    let scene = Scene::read(alloc, TWO_STALLED.as_bytes())?;
+    let journal = Journal::new(alloc);
+    let cases = [
+        (RunEnd::Done, ""),
+        (RunEnd::Spent(SpentWho::Endpoint(0)), "wx: spent: p\n"),
+        (RunEnd::Spent(SpentWho::Endpoint(2)), "wx: spent: r\n"),
+    ];
+    for (end, expected) in cases {
+        let lines = lines_of_end(alloc, &scene, &journal, end)?;
+        assert_eq!(rt; str::from_utf8(&lines), Ok(expected));
+    }
+    Ok(())
+}
+
 /// The other commands answer through the same call.
 #[test]
 fn other_commands(rt: HostRuntime) -> Result<(), Fail> {
@@ -566,12 +669,7 @@ fn other_commands(rt: HostRuntime) -> Result<(), Fail> {
             "wx: input refused: url\n",
         ),
         (&["match", "<all_urls>"], Status::Usage, "", USAGE),
-        (
-            &["frames", "s"],
-            Status::Done,
-            "0 2:{}\n1 1:1\nend\n",
-            "",
-        ),
+        (&["frames", "s"], Status::Done, "0 2:{}\n1 1:1\nend\n", ""),
         (
             &["frames", "t"],
             Status::InputRefused(InputKind::Missing),

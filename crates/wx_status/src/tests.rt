@@ -3,7 +3,7 @@ use std::alloc::{AllocError, Global};
 use std::test::Fail;
 use wx_match_pattern::{PatternFault, PatternKind};
 use wx_outside::MemorySink;
-use wx_script::{SceneFault, SceneKind};
+use wx_script::{SceneFault, SceneKind, SpentWho};
 
 const PATTERN: InputKind = InputKind::Pattern(PatternFault {
     place: 8,
@@ -14,6 +14,7 @@ const PATTERN: InputKind = InputKind::Pattern(PatternFault {
 fn numbers(rt: HostRuntime) {
     let cases = [
         (Status::Done, 0),
+        (Status::Stalled, 1),
         (Status::No, 1),
         (Status::Usage, 2),
         (Status::ReadFault, 3),
@@ -27,6 +28,7 @@ fn numbers(rt: HostRuntime) {
         (Status::InputRefused(PATTERN), 4),
         (Status::WriteFault, 6),
         (Status::NoMemory, 7),
+        (Status::Spent(SpentWho::Endpoint(3)), 8),
     ];
     for (status, number) in cases {
         assert_eq!(rt; status.number(), number);
