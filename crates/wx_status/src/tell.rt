@@ -64,19 +64,19 @@ fn tell_lines<E: Sink>(answer: Status, lines: &[u8], err: &mut E) -> Status
     }
 }
 
-/// Writes the text of a run, and behind it the lines of its answer.
+/// Writes the journal's text of a run, and behind it the lines of its answer.
 pub fn tell_run<O: Sink, E: Sink>(
     answer: Status,
-    text: &[u8],
+    journal: &[u8],
     lines: &[u8],
     out: &mut O,
     err: &mut E,
 ) -> Status
-    ensures { ToldRun answer text.now lines.now
+    ensures { ToldRun answer journal.now lines.now
         (record { before = O.written out.old; after = O.written out.new; faults_before = O.faults out.old; faults_after = O.faults out.new })
         (record { before = E.written err.old; after = E.written err.new; faults_before = E.faults err.old; faults_after = E.faults err.new }) result }
 {
-    match out.write(text) {
+    match out.write(journal) {
         Ok(()) => tell_lines(answer, lines, err),
         Err(Failed) => tell_write_fault(err),
     }
