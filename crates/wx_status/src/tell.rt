@@ -76,8 +76,8 @@ pub fn tell_run<O: Sink, E: Sink>(
         (record { before = O.written out.old; after = O.written out.new; faults_before = O.faults out.old; faults_after = O.faults out.new })
         (record { before = E.written err.old; after = E.written err.new; faults_before = E.faults err.old; faults_after = E.faults err.new }) result }
 {
-    match out.write(journal) {
-        Ok(()) => tell_lines(answer, lines, err),
-        Err(Failed) => tell_write_fault(err),
+    if out.write(journal).is_err() {
+        return tell_write_fault(err);
     }
+    tell_lines(answer, lines, err)
 }
