@@ -7,7 +7,7 @@ use Rattle.wx_script.specs.SceneValue.{SceneValue}
 use Rattle.wx_script.specs.Ends.{numbered}
 use Rattle.wx_run.specs.declared.outcome.RunEnd.{RunEnd}
 use Rattle.wx_run.specs.declared.outcome.RunEnd.TheVariants as end
-use Rattle.wx_run.specs.declared.outcome.SpentWho.TheVariants.{Endpoint}
+use Rattle.wx_script.specs.declared.scene.SpentWho.TheVariants.{Endpoint}
 use Rattle.wx_status.specs.declared.status.Status.{Status}
 use Rattle.wx_status.specs.declared.status.Status.TheVariants as status
 
@@ -29,13 +29,16 @@ abbrev pub stalled_from : List Entry → ℕ → List SceneEndpoint → List ℕ
 stalled_from past n [] = []
 stalled_from past n (e ∷ endpoints) = stalled_unless (has_left past (numbered n)) e.name ++ stalled_from past (n + 1) endpoints
 
+abbrev pub spent_line : List ℕ → List ℕ
+spent_line name = codes "wx: spent: " ++ (name ++ codes "\n")
+
 -- the line of the endpoint that is spent
-abbrev pub spent_line : Option SceneEndpoint → List ℕ
-spent_line None = []
-spent_line (Some e) = codes "wx: spent: " ++ (e.name ++ codes "\n")
+abbrev pub spent_lines : Option SceneEndpoint → List ℕ
+spent_lines None = []
+spent_lines (Some e) = spent_line e.name
 
 -- the lines that tell of this end of a run of the scene, whose entries are these, the newest first
 abbrev pub lines_of_end : SceneValue → List Entry → RunEnd → List ℕ
 lines_of_end scene past end.Done = []
 lines_of_end scene past end.Stalled = stalled_from past 0 scene.endpoints
-lines_of_end scene past (end.Spent (Endpoint n)) = spent_line (slice_get scene.endpoints n)
+lines_of_end scene past (end.Spent (Endpoint n)) = spent_lines (slice_get scene.endpoints n)

@@ -1,5 +1,5 @@
 //! The lines by which the end of a run is told.
-ghost use Rattle.std.specs.Prelude.{◌≡◌, ◌++◌, IfOk, OnOk, reverse, slice_get};
+ghost use Rattle.std.specs.Prelude.{◌≡◌, ◌++◌, IfOk, OnOk, reverse, slice_get, string_bytes};
 ghost use Rattle.wx_machine.specs.Contexts.{has_left};
 ghost use Rattle.wx_cmd.specs.Endings as endings;
 
@@ -24,16 +24,15 @@ pub fn answer_by(end: RunEnd) -> Status
 }
 
 /// The line of an endpoint that has not ended.
-fn put_stalled(lines: &mut Vec<u8>, name: &str) -> Result<(), AllocError>
-    ensures { OnOk result (lines.new.items ≡ lines.old.items ++ endings.stalled_line name.now) }
+fn stalled_line(alloc: Global, name: &str) -> Result<String, AllocError>
+    ensures { IfOk result (λ line. string_bytes line ≡ endings.stalled_line name.now) }
 {
-    lines.extend_from_slice(b"wx: stalled: ")?;
-    lines.extend_from_slice(name.as_bytes())?;
-    lines.extend_from_slice(b"\n")
+    format!(in alloc; "wx: stalled: {name}\n")
 }
 
 /// The line of the endpoint that is context c, unless it has left.
 fn put_unless_left(
+    alloc: Global,
     lines: &mut Vec<u8>,
     entries: &[Entry],
     c: ContextNo,
@@ -44,7 +43,8 @@ fn put_unless_left(
     if has_left(entries, c) {
         Ok(())
     } else {
-        put_stalled(lines, name)
+        let line = stalled_line(alloc, name)?;
+        lines.extend_from_slice(line.as_bytes())
     }
 }
 
@@ -59,6 +59,7 @@ fn stalled_lines(
     let mut lines = Vec::new(alloc);
     for (n, endpoint) in endpoints.iter().enumerate() {
         put_unless_left(
+            alloc,
             &mut lines,
             entries,
             ContextNo(n as u64),
@@ -68,17 +69,24 @@ fn stalled_lines(
     Ok(lines)
 }
 
-/// The line of the endpoint that is spent.
-fn spent_line(alloc: Global, endpoints: &[SceneEndpoint], n: u64) -> Result<Vec<u8>, AllocError>
-    ensures { IfOk result (λ line. line.items ≡ endings.spent_line (slice_get endpoints.now n)) }
+/// The line of an endpoint that is spent.
+fn spent_line(alloc: Global, name: &str) -> Result<String, AllocError>
+    ensures { IfOk result (λ line. string_bytes line ≡ endings.spent_line name.now) }
 {
-    let mut line = Vec::new(alloc);
-    if let Some(endpoint) = endpoints.get(n as usize) {
-        line.extend_from_slice(b"wx: spent: ")?;
-        line.extend_from_slice(endpoint.name.as_str().as_bytes())?;
-        line.extend_from_slice(b"\n")?;
+    format!(in alloc; "wx: spent: {name}\n")
+}
+
+/// The line of the endpoint at this place, which is spent.
+fn spent_lines(alloc: Global, endpoints: &[SceneEndpoint], n: u64) -> Result<Vec<u8>, AllocError>
+    ensures { IfOk result (λ lines. lines.items ≡ endings.spent_lines (slice_get endpoints.now n)) }
+{
+    match endpoints.get(n as usize) {
+        Some(endpoint) => {
+            let line = spent_line(alloc, endpoint.name.as_str())?;
+            Vec::from_slice(alloc, line.as_bytes())
+        }
+        None => Ok(Vec::new(alloc)),
     }
-    Ok(line)
 }
 
 /// The lines that tell how a run of the scene ended.
@@ -93,6 +101,6 @@ pub fn lines_of_end(
     match end {
         RunEnd::Done => Ok(Vec::new(alloc)),
         RunEnd::Stalled => stalled_lines(alloc, scene.endpoints(), journal.entries()),
-        RunEnd::Spent(SpentWho::Endpoint(n)) => spent_line(alloc, scene.endpoints(), n),
+        RunEnd::Spent(SpentWho::Endpoint(n)) => spent_lines(alloc, scene.endpoints(), n),
     }
 }

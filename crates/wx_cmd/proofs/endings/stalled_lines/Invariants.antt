@@ -4,5 +4,5 @@ use Rattle.wx_cmd.specs.Endings.{stalled_from}
 use Rattle.wx_cmd.proofs.endings.stalled_lines.Given as goal
 
 -- the lines of the endpoints so far
-abbrev pub invariant-loop-endpoint : goal.invariant-loop-endpoint
-invariant-loop-endpoint l = l.lines.items ≡ stalled_from (reverse l.entries) 0 (take l.endpoint-index l.endpoints)
+abbrev pub invariant-loop-n : goal.invariant-loop-n
+invariant-loop-n l = l.lines.items ≡ stalled_from (reverse l.entries) 0 (take l.n l.endpoints)
