@@ -1,12 +1,12 @@
 -- The scene that stands under a name, or why it is refused; and the text that a run of it leaves.
-use Rattle.std.specs.Prelude.{◌≡◌, ℕ, List, Result, Ok, Err}
+use Rattle.std.specs.Prelude.{◌≡◌, ℕ, List, Result, Err}
 use Rattle.wx_outside.specs.Shelf.{Content, present, absent, too_large}
 use Rattle.wx_machine.specs.declared.world.World.{World}
 use Rattle.wx_machine.specs.declared.entries.Entry.{Entry}
 use Rattle.wx_journal.specs.Text.{journal_text}
 use Rattle.wx_script.specs.declared.scene.SceneFault.{SceneFault}
 use Rattle.wx_script.specs.declared.scene.SceneKind.{SceneKind}
-use Rattle.wx_script.specs.declared.scene.SceneKind.TheVariants.{Missing, Large, Form}
+use Rattle.wx_script.specs.declared.scene.SceneKind.TheVariants.{Missing, Large}
 use Rattle.wx_script.specs.SceneValue.{SceneValue}
 use Rattle.wx_script.specs.Scene.{scene_of}
 use Rattle.wx_run.specs.Run.{IsRunOf}
@@ -15,20 +15,11 @@ use Rattle.wx_run.specs.Run.{IsRunOf}
 abbrev pub refusal : SceneKind → SceneFault
 refusal kind = record { line = 0; kind = kind }
 
--- what is told of a faulty line: for now, that there is one
-abbrev pub refusal_of : SceneFault → SceneFault
-refusal_of fault = refusal Form
-
--- what was read, with the fault as it is told
-abbrev pub scene_or_refusal : Result SceneValue SceneFault → Result SceneValue SceneFault
-scene_or_refusal (Ok scene) = Ok scene
-scene_or_refusal (Err fault) = Err (refusal_of fault)
-
 -- the scene that stands there, or why it is refused
 abbrev pub scene_in : Content → Result SceneValue SceneFault
 scene_in absent = Err (refusal Missing)
 scene_in too_large = Err (refusal Large)
-scene_in (present bytes) = scene_or_refusal (scene_of bytes)
+scene_in (present bytes) = scene_of bytes
 
 -- the world in which no extension has a manifest, and no native host is known
 abbrev pub empty_world : World

@@ -57,10 +57,10 @@ const USAGE: &str = "wx: usage\n";
 
 const MISSING: &str = "wx: scene refused: line 0: missing\n";
 
-/// The answer to bytes that are no scene.
-const FORM: Status = Status::SceneRefused {
-    line: 0,
-    kind: SceneKind::Form,
+/// The answer to no bytes.
+const NO_HEAD: Status = Status::SceneRefused {
+    line: 1,
+    kind: SceneKind::Head,
 };
 
 /// Memory is ample here, so a program that always answers that it was refused fails.
@@ -380,24 +380,70 @@ fn words(rt: HostRuntime) -> Result<(), Fail> {
 #[test]
 fn no_scenes(rt: HostRuntime) -> Result<(), Fail> {
     let alloc = rt.alloc();
-    let form = "wx: scene refused: line 0: form\n";
+    // A scene's text; the first faulty line, what is wrong with it, and the line that tells it.
     let cases = [
-        "",
-        "wx scene 1 chrome",
-        "wx scene 1 mdn\n",
-        "wx scene 1 chrome\n\n",
-        "wx scene 1 chrome\n# a remark\n",
-        "wx scene 1 chrome\n  take\n",
-        "wx scene 1 chrome\nextension x abc\n",
-        "wx scene 1 chrome\npage p x /p\n",
+        (
+            "",
+            1,
+            SceneKind::Head,
+            "wx: scene refused: line 1: head\n",
+        ),
+        (
+            "wx scene 1 mdn\n",
+            1,
+            SceneKind::Head,
+            "wx: scene refused: line 1: head\n",
+        ),
+        (
+            "wx scene 1 chrome\nwx scene 1 chrome\n",
+            2,
+            SceneKind::Form,
+            "wx: scene refused: line 2: form\n",
+        ),
+        (
+            "wx scene 1 chrome\n# a remark\n\n  take",
+            4,
+            SceneKind::Order,
+            "wx: scene refused: line 4: order\n",
+        ),
+        (
+            "wx scene 1 chrome\nextension x abc\n",
+            2,
+            SceneKind::Id,
+            "wx: scene refused: line 2: id\n",
+        ),
+        (
+            "wx scene 1 chrome\nextension x aaaaaaaaaaaaaaaaaaaaaaaaaaaaaaaa\nextension x bbbbbbbbbbbbbbbbbbbbbbbbbbbbbbbb\n",
+            3,
+            SceneKind::Repeated,
+            "wx: scene refused: line 3: repeated\n",
+        ),
+        (
+            "wx scene 1 chrome\npage p x /p\n",
+            2,
+            SceneKind::Unknown,
+            "wx: scene refused: line 2: unknown\n",
+        ),
+        (
+            "wx scene 1 chrome\nextension x aaaaaaaaaaaaaaaaaaaaaaaaaaaaaaaa\npage p x /p\n  post ch 1\n",
+            4,
+            SceneKind::Unbound,
+            "wx: scene refused: line 4: unbound\n",
+        ),
+        (
+            "wx scene 1 chrome\nextension x aaaaaaaaaaaaaaaaaaaaaaaaaaaaaaaa\npage p x /p\n  connect ch own\n  post ch {\n",
+            5,
+            SceneKind::Json,
+            "wx: scene refused: line 5: json\n",
+        ),
     ];
-    for text in cases {
+    for (text, line, kind, told) in cases {
         let mut shelf = shelf_of(alloc, Vec::from_slice(alloc, text.as_bytes())?)?;
         let mut out = sink_of(alloc, AMPLE);
         let mut err = sink_of(alloc, AMPLE);
         let status = answer(alloc, &RUN, &mut shelf, &mut out, &mut err)?;
-        assert_eq!(rt; status, FORM, "{text}");
-        assert_eq!(rt; str::from_utf8(&err.bytes), Ok(form), "{text}");
+        assert_eq!(rt; status, Status::SceneRefused { line, kind }, "{text}");
+        assert_eq!(rt; str::from_utf8(&err.bytes), Ok(told), "{text}");
         assert_eq!(rt; out.writes, 0, "{text}");
     }
     let mut shelf = shelf_of(alloc, vec![in alloc; 35u8; 67108865]?)?;
@@ -421,7 +467,7 @@ fn no_scenes(rt: HostRuntime) -> Result<(), Fail> {
 #[test]
 fn faults(rt: HostRuntime) -> Result<(), Fail> {
     let alloc = rt.alloc();
-    let form = "wx: scene refused: line 0: form\n";
+    let no_head = "wx: scene refused: line 1: head\n";
     let fault = "wx: write fault\n";
     // The scene, whether its read fails, the room on both sinks; the status, and what stands on both.
     let cases = [
@@ -452,8 +498,16 @@ fn faults(rt: HostRuntime) -> Result<(), Fail> {
             "wx journal 1 chrome\n",
             "",
         ),
+        (
+            "wx scene 1 chrome\n\n# a remark",
+            false,
+            (20, 0),
+            Status::Done,
+            "wx journal 1 chrome\n",
+            "",
+        ),
         ("", false, (AMPLE, 0), Status::WriteFault, "", ""),
-        ("", false, (0, AMPLE), FORM, "", form),
+        ("", false, (0, AMPLE), NO_HEAD, "", no_head),
     ];
     for (scene, read_fails, room, status, on_out, on_err) in cases {
         let mut shelf = shelf_of(alloc, Vec::from_slice(alloc, scene.as_bytes())?)?;
@@ -478,7 +532,7 @@ fn numbers(rt: HostRuntime) {
         (Status::Done, 0),
         (Status::Usage, 2),
         (Status::ReadFault, 3),
-        (FORM, 4),
+        (NO_HEAD, 4),
         (Status::WriteFault, 6),
         (Status::NoMemory, 7),
     ];

@@ -34,7 +34,7 @@ fn refusal(kind: SceneKind) -> SceneFault
     SceneFault { line: 0, kind }
 }
 
-/// What the bytes of a scene come to. Which line is faulty, and how, is not told for now.
+/// What the bytes of a scene come to. A refusal names the first faulty line, and what is wrong with it.
 fn judge_bytes<'a>(alloc: Global, bytes: &[u8]) -> Verdict<'a>
     ensures { ComesTo (present bytes.now) (verdict_view result) }
 {
@@ -43,7 +43,7 @@ fn judge_bytes<'a>(alloc: Global, bytes: &[u8]) -> Verdict<'a>
             Ok(text) => Verdict::Ran(text),
             Err(NoMemory) => Verdict::NoMemory,
         },
-        Err(SceneReadFault::Bad(_)) => Verdict::Refused(refusal(SceneKind::Form)),
+        Err(SceneReadFault::Bad(fault)) => Verdict::Refused(fault),
         Err(SceneReadFault::NoMemory) => Verdict::NoMemory,
     }
 }

@@ -11,6 +11,6 @@ mod world;
 
 pub use contexts::{Context, Listens, Sort, Target};
 pub use entries::{Answer, Call, Entry, Who};
-pub use texts::{LONGEST, PagePath, PathFault};
+pub use texts::{LONGEST, PagePath, PathFault, are_printable, is_page_path};
 pub use world::World;
 pub use wx_json::JsonText;

@@ -1,21 +1,21 @@
 -- Every fault of a scene names a line.
-use Rattle.std.proofs.Common.{◌≡◌, ℕ, ◌+◌, ◌≤◌, cond, arith, Bool, true, false, List, [], ◌∷◌, Some, None, Ok, Err, refl, sym, ap, ◌∙◌, subst}
+use Rattle.std.proofs.Common.{ℕ, ◌+◌, ◌≤◌, cond, arith, Bool, true, false, List, [], ◌∷◌, Some, None, Ok, Err, refl, subst}
 use Rattle.std.specs.Prelude.{IfErr, IsTrue, Result, nat_le, length, not, codes, ◌==◌}
 use Rattle.std.specs.Str.{bytes_eq}
 use Rattle.std.specs.declared.option.Option.{Option}
 use Rattle.wx_id.specs.Ids.{is_extension_id}
 use Rattle.wx_script.specs.declared.script.Act.{Act}
+use Rattle.wx_script.specs.declared.script.Var.{Var}
 use Rattle.wx_script.specs.declared.scene.Scene.{Scene}
 use Rattle.wx_script.specs.declared.scene.SceneKind.{SceneKind}
 use Rattle.wx_script.specs.declared.scene.SceneFault.{SceneFault}
 use Rattle.wx_script.specs.declared.scene.SceneReadFault.{SceneReadFault}
 use Rattle.wx_script.specs.declared.scene.SceneReadFault.TheVariants as fault
-use Rattle.wx_script.specs.SceneValue.{SceneValue}
-use Rattle.wx_script.specs.Line.{NamedAct, Line, listen, connect, post, disconnect, take_one, extension, page, script, line_at}
+use Rattle.wx_script.specs.Line.{NamedAct, NamedCommand, Line, listen, connect, post, disconnect, take_one, await_connect, await_message, await_close, echo, comment, extension, page, script, line_at}
 use Rattle.wx_script.specs.Names.{has_extension, has_endpoint, id_under, place_in}
 use Rattle.wx_json.specs.Test.{is_json_text}
-use Rattle.wx_script.specs.Draft.{Draft, fresh, extension_added, page_with, page_added, act_of, act_added, where_bound, channels_after, command_added, commands, line_added}
-use Rattle.wx_script.specs.Scene.{lines_of, line_or_form, text_added, unless_faulty, ended, lines_added, scene_from, behind_head, headed, scene_of}
+use Rattle.wx_script.specs.Draft.{Draft, fresh, var, page_with, act_of, act_added, where_bound, named_act, line_added}
+use Rattle.wx_script.specs.Scene.{lines_of, line_or_form, text_added, unless_faulty, lines_added, scene_from, headed, scene_of}
 use Rattle.wx_script.specs.Reading.{ReadsIt, is_of_a_line, IsOfALine, NamesALine}
 
 abbrev OfALine : {A : Type 0} → Result A SceneKind → Type 0
@@ -29,25 +29,30 @@ of_page_with : (d : Draft) (name : List ℕ) (id : Option (List ℕ)) (path : Li
 of_page_with d name None path = refl
 of_page_with d name (Some id) path = of_choice (nat_le 1024 (length d.endpoints)) _ _ refl tt
 
-of_where_bound : (n : Option ℕ) (f : ℕ → Result Act SceneKind) → ((n : ℕ) → OfALine (f n)) → OfALine (where_bound n f)
+of_where_bound : (n : Option ℕ) (f : Var → Result Act SceneKind) → ((v : Var) → OfALine (f v)) → OfALine (where_bound n f)
 of_where_bound None f h = refl
-of_where_bound (Some n) f h = h n
+of_where_bound (Some n) f h = h (var n)
 
-of_act_of : (channels : List (List ℕ)) (c : NamedAct) → OfALine (act_of channels c)
-of_act_of channels (listen l) = tt
-of_act_of channels (connect name) = tt
-of_act_of channels (post name text) = of_where_bound (place_in name channels) _ (λ n. of_choice (is_json_text text) _ _ tt refl)
-of_act_of channels (disconnect name) = of_where_bound (place_in name channels) _ (λ n. tt)
-of_act_of channels take_one = tt
+of_act_of : (variables : List (List ℕ)) (a : NamedAct) → OfALine (act_of variables a)
+of_act_of variables (listen l) = tt
+of_act_of variables (connect name port) = tt
+of_act_of variables (post name text) = of_where_bound (place_in name variables) _ (λ v. of_choice (is_json_text text) _ _ tt refl)
+of_act_of variables (disconnect name) = of_where_bound (place_in name variables) _ (λ v. tt)
+of_act_of variables take_one = tt
+of_act_of variables (await_connect name) = tt
+of_act_of variables (await_message name) = of_where_bound (place_in name variables) _ (λ v. tt)
+of_act_of variables (await_close name) = of_where_bound (place_in name variables) _ (λ v. tt)
+of_act_of variables (echo n) = tt
 
-of_act_added : (d : Draft) (a : Result Act SceneKind) (channels : List (List ℕ)) → OfALine a → OfALine (act_added d a channels)
-of_act_added d (Err k) channels h = h
-of_act_added d (Ok a) channels h = of_choice (nat_le 65534 (commands d.endpoints)) _ _ refl tt
+of_act_added : (d : Draft) (c : NamedCommand) (a : Result Act SceneKind) → OfALine a → OfALine (act_added d c a)
+of_act_added d c (Err k) h = h
+of_act_added d c (Ok a) h = tt
 
 of_line_added : (d : Draft) (l : Line) → OfALine (line_added d l)
+of_line_added d (comment text) = tt
 of_line_added d (extension name id) = of_choice (not (is_extension_id id)) _ _ refl (of_choice (has_extension name id d.extensions) _ _ refl tt)
 of_line_added d (page name ext path) = of_choice (has_endpoint name d.endpoints) _ _ refl (of_page_with d name (id_under ext d.extensions) path)
-of_line_added d (script c) = of_choice (length d.endpoints == 0) _ _ refl (of_act_added d (act_of d.channels c) (channels_after d.channels c) (of_act_of d.channels c))
+of_line_added d (script c) = of_choice (length d.endpoints == 0) _ _ refl (of_act_added d c (act_of d.variables (named_act c)) (of_act_of d.variables (named_act c)))
 
 of_line_or_form : (d : Draft) (l : Option Line) → OfALine (line_or_form d l)
 of_line_or_form d None = refl
@@ -60,15 +65,10 @@ at_unless_faulty : {A B : Type 0} (n : ℕ) (r : Result A SceneKind) (f : A → 
 at_unless_faulty n (Ok x) f low h each = each x
 at_unless_faulty n (Err k) f low h each = record { line = low; kind = h }
 
-at_ended : (n : ℕ) (d : Draft) (text : List ℕ) → 1 ≤ n → AtALine (ended n d text)
-at_ended n d [] low = tt
-at_ended n d (b ∷ bs) low = record { line = low; kind = refl }
-
 at_lines_added : (n : ℕ) (d : Draft) (texts : List (List ℕ)) → 1 ≤ n → AtALine (lines_added n d texts)
 at_lines_added n d [] low = tt
-at_lines_added n d (text ∷ []) low = at_ended n d text low
-at_lines_added n d (text ∷ next ∷ texts) low =
-    at_unless_faulty n (text_added d text) _ low (of_line_or_form d (line_at text)) (λ d. at_lines_added (n + 1) d (next ∷ texts) (omega (arith, low)))
+at_lines_added n d (text ∷ texts) low =
+    at_unless_faulty n (text_added d text) _ low (of_line_or_form d (line_at text)) (λ d. at_lines_added (n + 1) d texts (omega (arith, low)))
 
 at_scene_from : (r : Result Draft SceneFault) → AtALine r → AtALine (scene_from r)
 at_scene_from (Ok d) h = tt
@@ -80,17 +80,13 @@ first = omega arith
 second : 1 ≤ 2
 second = omega arith
 
-at_behind_head : (texts : List (List ℕ)) → AtALine (behind_head texts)
-at_behind_head [] = record { line = first; kind = refl }
-at_behind_head (text ∷ texts) = at_scene_from (lines_added 2 fresh (text ∷ texts)) (at_lines_added 2 fresh (text ∷ texts) second)
-
 at_choice : {A : Type 0} (b : Bool) (x y : Result A SceneFault) → AtALine x → AtALine y → AtALine (cond b x y)
 at_choice true x y hx hy = hx
 at_choice false x y hx hy = hy
 
 at_headed : (texts : List (List ℕ)) → AtALine (headed texts)
 at_headed [] = record { line = first; kind = refl }
-at_headed (head ∷ texts) = at_choice (bytes_eq head (codes "wx scene 1 chrome")) _ _ (at_behind_head texts) (record { line = first; kind = refl })
+at_headed (head ∷ texts) = at_choice (bytes_eq head (codes "wx scene 1 chrome")) _ _ (at_scene_from (lines_added 2 fresh texts) (at_lines_added 2 fresh texts second)) (record { line = first; kind = refl })
 
 pub names_a_line : (r : Result Scene SceneReadFault) (text : List ℕ) → ReadsIt r (scene_of text) → IfErr r NamesALine
 names_a_line (Ok scene) text h = tt

@@ -1,9 +1,12 @@
+pub mod Chosen
 pub mod WordLemmas
+pub mod NumberLemmas
 pub mod Again
 pub mod LineLemmas
 pub mod Spelled
 pub mod DraftLemmas
+pub mod NameLemmas
 pub mod ReadingLemmas
 pub mod FaultLemmas
-pub mod RoomLemmas
+pub mod SoundLemmas
 pub mod LeftLemmas

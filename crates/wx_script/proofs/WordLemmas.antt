@@ -1,17 +1,17 @@
 -- A word and what stands behind it.
-use Rattle.std.proofs.Common.{◌≡◌, ℕ, Bool, true, false, not, ◌&&◌, ◌||◌, cond, List, [], ◌∷◌, ◌++◌, length, refl, sym, ap, ◌∙◌, arith, Option, Some, None}
+use Rattle.std.proofs.Common.{◌≡◌, ℕ, Bool, true, false, not, ◌&&◌, cond, List, [], ◌∷◌, ◌++◌, length, refl, ap, arith, Some}
 use Rattle.std.specs.Prelude.{◌==◌, IsTrue, nat_le, nat_lt}
 use Rattle.std.specs.List.{list_all}
 use Rattle.std.proofs.lemmas.Bool.{eqb-true}
 use Rattle.std.specs.Str.{IsUtf8, bytes_eq}
-use Rattle.std.specs.Prelude.{codes, get_or, ◌<◌, ◌≤◌}
+use Rattle.std.specs.Prelude.{codes, get_or, ◌<◌}
 use Rattle.std.specs.List.{AllPass}
 use Rattle.std.proofs.lemmas.Str.{IsUtf8-from_ascii}
 use Rattle.std.proofs.lemmas.Str.Ascii.{IsAscii-from_all}
 use Rattle.std.proofs.lemmas.Bool.Decides.{nat_tests}
 use Rattle.std.proofs.lemmas.List.Sums.{AllPass-from_list_all}
 use Rattle.wx_machine.specs.Texts.{is_printable, is_page_path}
-use Rattle.wx_script.specs.Words.{word, rest, is_name, is_identifier, is_name_byte, is_letter, is_digit}
+use Rattle.wx_script.specs.Words.{word, rest, is_name, is_word, is_identifier, is_name_byte, is_letter}
 
 abbrev pub is_no_space : ℕ → Bool
 is_no_space b = not (b == 32)
@@ -69,7 +69,7 @@ identifier_bytes (b ∷ w) h =
       | false ↦ λ first h. absurd cc
     ] refl h
 
-both : (a b : Bool) → (a && b) ≡ true → a ≡ true
+pub both : (a b : Bool) → (a && b) ≡ true → a ≡ true
 both true b h = refl
 both false b h = absurd cc
 
@@ -81,7 +81,7 @@ pub name_no_space : (w : List ℕ) → IsTrue (is_name w) → list_all is_no_spa
 name_no_space w h = name_bytes w (name_bytes-is_name w h)
 
 -- a text whose bytes all pass a test that only ASCII passes is UTF-8
-IsUtf8-from_list_all : (p : ℕ → Bool) (xs : List ℕ) → ((b : ℕ) → p b ≡ true → b < 128) → list_all p xs ≡ true → IsUtf8 xs
+pub IsUtf8-from_list_all : (p : ℕ → Bool) (xs : List ℕ) → ((b : ℕ) → p b ≡ true → b < 128) → list_all p xs ≡ true → IsUtf8 xs
 IsUtf8-from_list_all p xs ascii h =
     let pass : AllPass p xs = AllPass-from_list_all p xs h in
     IsUtf8-from_ascii xs (IsAscii-from_all xs (λ k d within. ascii (get_or xs k d) (pass k d within)))
@@ -97,6 +97,13 @@ is_printable_byte b = nat_le 33 b && nat_le b 126
 
 printable_byte_is_ascii : (b : ℕ) → is_printable_byte b ≡ true → b < 128
 printable_byte_is_ascii b h = grind (arith, nat_tests)
+
+word_bytes : (w : List ℕ) → is_word w ≡ true → is_printable w ≡ true
+word_bytes [] h = absurd cc
+word_bytes (b ∷ w) h = h
+
+pub words_are_utf8 : (w : List ℕ) → is_word w ≡ true → IsUtf8 w
+words_are_utf8 w h = IsUtf8-from_list_all is_printable_byte w printable_byte_is_ascii (word_bytes w h)
 
 path_bytes : (w : List ℕ) → is_page_path w ≡ true → is_printable w ≡ true
 path_bytes [] h = absurd cc

@@ -1,5 +1,5 @@
 -- What the commands of a script do, one act after another.
-use Rattle.std.specs.Prelude.{ℕ, List, [], ◌∷◌, ◌++◌, replicate}
+use Rattle.std.specs.Prelude.{List, [], ◌∷◌, ◌++◌, replicate}
 use Rattle.wx_script.specs.declared.script.Act.{Act}
 use Rattle.wx_script.specs.declared.script.Command.{Command}
 use Rattle.wx_script.specs.declared.script.Command.TheVariants.{Plain, Repeat}

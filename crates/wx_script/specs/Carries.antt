@@ -1,5 +1,5 @@
 -- How a journal carries out the scripts of its endpoints.
-use Rattle.std.specs.Prelude.{◌≡◌, ℕ, List, slice_get, Some, IsTrue, reverse}
+use Rattle.std.specs.Prelude.{◌≡◌, List, slice_get, Some, IsTrue, reverse}
 use Rattle.wx_id.specs.declared.numbers.ContextNo.{ContextNo}
 use Rattle.wx_machine.specs.declared.entries.Who.{Who}
 use Rattle.wx_machine.specs.declared.entries.Who.TheVariants.{Context as ByContext}

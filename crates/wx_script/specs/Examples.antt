@@ -1,10 +1,11 @@
 -- Worked scenes, and faults with their lines.
-use Rattle.std.specs.Prelude.{◌≡◌, ℕ, List, [], ◌∷◌, ◌++◌, map, Result, Ok, Err, Some, true, false, codes}
+use Rattle.std.specs.Prelude.{◌≡◌, ℕ, List, [], ◌∷◌, ◌++◌, map, Result, Ok, Err, Some, true, codes}
 use Rattle.wx_machine.specs.declared.contexts.Context.TheVariants.{Page}
 use Rattle.wx_machine.specs.declared.contexts.Target.TheVariants.{Own}
 use Rattle.wx_script.specs.declared.script.Act.{Act}
 use Rattle.wx_script.specs.declared.script.Act.TheVariants as act
-use Rattle.wx_script.specs.declared.script.Command.TheVariants.{Plain}
+use Rattle.wx_script.specs.declared.script.Command.{Command}
+use Rattle.wx_script.specs.declared.script.Command.TheVariants.{Plain, Repeat}
 use Rattle.wx_script.specs.declared.scene.SceneExtension.{SceneExtension}
 use Rattle.wx_script.specs.declared.scene.SceneEndpoint.{SceneEndpoint}
 use Rattle.wx_script.specs.declared.scene.SceneKind.{SceneKind}
@@ -46,21 +47,56 @@ two_pages =
 abbrev pub x_declared : List SceneExtension
 x_declared = record { name = codes "x"; id = id_a } ∷ []
 
-abbrev pub page_of_x : List ℕ → List ℕ → List Act → SceneEndpoint
-page_of_x name path acts = record { name = name; context = Page id_a path; script = map Plain acts }
+abbrev pub page_of_x : List ℕ → List ℕ → List Command → SceneEndpoint
+page_of_x name path script = record { name = name; context = Page id_a path; script = script }
+
+-- acts that are made once
+abbrev pub once : List Act → List Command
+once acts = map Plain acts
 
 abbrev pub TwoPages : Type 0
 TwoPages =
     IsScene two_pages x_declared
-    (page_of_x (codes "q") (codes "/q") (act.Connect (var 0) Own [] ∷ act.Post (var 0) (codes "1") ∷ act.Disconnect (var 0) ∷ [])
-    ∷ page_of_x (codes "p") (codes "/p") (act.Listen (listens_to true) ∷ act.Take ∷ act.Take ∷ act.Take ∷ [])
+    (page_of_x (codes "q") (codes "/q") (once (act.Connect (var 0) Own [] ∷ act.Post (var 0) (codes "1") ∷ act.Disconnect (var 0) ∷ []))
+    ∷ page_of_x (codes "p") (codes "/p") (once (act.Listen (listens_to true) ∷ act.Take ∷ act.Take ∷ act.Take ∷ []))
     ∷ [])
 
 -- variables are numbered in the order in which they are first bound
 abbrev pub NumberedVariables : Type 0
 NumberedVariables =
     IsScene (extension_x ∷ codes "page p x /p" ∷ codes "  connect b own" ∷ codes "  connect a own" ∷ codes "  connect b own" ∷ codes "  post a 0" ∷ []) x_declared
-    (page_of_x (codes "p") (codes "/p") (act.Connect (var 0) Own [] ∷ act.Connect (var 1) Own [] ∷ act.Connect (var 0) Own [] ∷ act.Post (var 1) (codes "0") ∷ []) ∷ [])
+    (page_of_x (codes "p") (codes "/p") (once (act.Connect (var 0) Own [] ∷ act.Connect (var 1) Own [] ∷ act.Connect (var 0) Own [] ∷ act.Post (var 1) (codes "0") ∷ [])) ∷ [])
+
+-- comments and empty lines count for nothing, within a script too
+abbrev pub CommentsPassedOver : Type 0
+CommentsPassedOver =
+    IsScene (codes "# a scene" ∷ extension_x ∷ [] ∷ codes "page p x /p" ∷ codes "  take" ∷ codes "#   take" ∷ [] ∷ codes "  take" ∷ []) x_declared
+    (page_of_x (codes "p") (codes "/p") (once (act.Take ∷ act.Take ∷ [])) ∷ [])
+
+-- a connection that is awaited binds its variable
+abbrev pub awaiting : List (List ℕ)
+awaiting =
+    extension_x ∷ codes "page p x /p"
+    ∷ codes "  await connect ch" ∷ codes "  await message ch" ∷ codes "  repeat 3 post ch 1" ∷ codes "  await close ch"
+    ∷ codes "  echo 20" ∷ codes "  connect b own name n" ∷ codes "  disconnect b" ∷ []
+
+abbrev pub Awaiting : Type 0
+Awaiting =
+    IsScene awaiting x_declared
+    (page_of_x (codes "p") (codes "/p")
+    (Plain (act.AwaitConnect (var 0)) ∷ Plain (act.AwaitMessage (var 0)) ∷ Repeat 3 (act.Post (var 0) (codes "1")) ∷ Plain (act.AwaitClose (var 0))
+    ∷ Plain (act.Echo 20) ∷ Plain (act.Connect (var 1) Own (codes "n")) ∷ Plain (act.Disconnect (var 1)) ∷ [])
+    ∷ [])
+
+-- a repeated command binds as the command does
+abbrev pub RepeatBinds : Type 0
+RepeatBinds =
+    IsScene (extension_x ∷ codes "page p x /p" ∷ codes "  repeat 2 connect ch own" ∷ codes "  post ch 1" ∷ []) x_declared
+    (page_of_x (codes "p") (codes "/p") (Repeat 2 (act.Connect (var 0) Own []) ∷ Plain (act.Post (var 0) (codes "1")) ∷ []) ∷ [])
+
+-- the last line may stand without its line feed
+abbrev pub LastLineUnended : Type 0
+LastLineUnended = scene_of (codes "wx scene 1 chrome" ++ 10 ∷ extension_x) ≡ Ok (record { extensions = x_declared; endpoints = [] })
 
 -- what is spelled as a line is read as that line
 abbrev pub ReadsTheSpelling : Type 0

@@ -9,6 +9,7 @@ pub mod Spelling
 pub mod View
 pub mod Names
 pub mod Draft
+pub mod Sound
 pub mod Adding
 pub mod Scene
 pub mod Reading

@@ -1,29 +1,38 @@
--- What the lines above declare.
-use Rattle.std.specs.Prelude.{ℕ, ◌+◌, Bool, true, false, ◌||◌, List, [], ◌∷◌, Option, Some, None, is_some, if◌then◌else◌}
-use Rattle.std.specs.Option.{option_map}
+-- Names, and what the lines above declare.
+use Rattle.std.specs.Prelude.{ℕ, Bool, ◌||◌, List, [], ◌∷◌, ◌++◌, map, Option, is_some, position, slice_get, if◌then◌else◌}
+use Rattle.std.specs.Option.{option_and_then}
 use Rattle.std.specs.Str.{bytes_eq}
 use Rattle.wx_script.specs.declared.scene.SceneExtension.{SceneExtension}
 use Rattle.wx_script.specs.declared.scene.SceneEndpoint.{SceneEndpoint}
 
+-- the place of a name among others, from 0
+abbrev pub place_in : List ℕ → List (List ℕ) → Option ℕ
+place_in name names = position (bytes_eq name) names
+
+abbrev pub is_among : List ℕ → List (List ℕ) → Bool
+is_among name names = is_some (place_in name names)
+
+-- the names, with one that is put behind them where it is not among them
+abbrev pub binding : List ℕ → List (List ℕ) → List (List ℕ)
+binding name names = if is_among name names then names else names ++ name ∷ []
+
+abbrev pub names_of : List SceneExtension → List (List ℕ)
+names_of extensions = map (λ (e : SceneExtension). e.name) extensions
+
+abbrev pub ids_of : List SceneExtension → List (List ℕ)
+ids_of extensions = map (λ (e : SceneExtension). e.id) extensions
+
+abbrev pub endpoint_names_of : List SceneEndpoint → List (List ℕ)
+endpoint_names_of endpoints = map (λ (e : SceneEndpoint). e.name) endpoints
+
 -- an extension with this name or this id stands above
 abbrev pub has_extension : List ℕ → List ℕ → List SceneExtension → Bool
-has_extension name id [] = false
-has_extension name id (e ∷ es) = bytes_eq e.name name || bytes_eq e.id id || has_extension name id es
+has_extension name id extensions = is_among name (names_of extensions) || is_among id (ids_of extensions)
 
 -- an endpoint with this name stands above
 abbrev pub has_endpoint : List ℕ → List SceneEndpoint → Bool
-has_endpoint name [] = false
-has_endpoint name (e ∷ es) = bytes_eq e.name name || has_endpoint name es
+has_endpoint name endpoints = is_among name (endpoint_names_of endpoints)
 
 -- the id of the extension with this name
 abbrev pub id_under : List ℕ → List SceneExtension → Option (List ℕ)
-id_under name [] = None
-id_under name (e ∷ es) = if bytes_eq e.name name then Some e.id else id_under name es
-
--- the place of a variable among those that the script binds
-abbrev pub place_from : ℕ → List ℕ → List (List ℕ) → Option ℕ
-place_from i name [] = None
-place_from i name (n ∷ ns) = if bytes_eq n name then Some i else place_from (i + 1) name ns
-
-abbrev pub place_in : List ℕ → List (List ℕ) → Option ℕ
-place_in name names = place_from 0 name names
+id_under name extensions = option_and_then (slice_get (ids_of extensions)) (place_in name (names_of extensions))

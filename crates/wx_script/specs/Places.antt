@@ -1,5 +1,5 @@
 -- Where an endpoint stands in its script, and what comes next.
-use Rattle.std.specs.Prelude.{◌≡◌, ℕ, ◌-◌, Bool, true, false, List, [], ◌∷◌, length, slice_get, slice_set, replicate, Option, Some, None, ◌==◌, is_none, nat_le, if◌then◌else◌}
+use Rattle.std.specs.Prelude.{ℕ, ◌-◌, Bool, true, false, List, [], ◌∷◌, length, slice_get, slice_set, replicate, Option, Some, None, ◌==◌, is_none, nat_le, if◌then◌else◌}
 use Rattle.std.specs.Option.{option_map, option_and_then}
 use Rattle.wx_id.specs.declared.numbers.ContextNo.{ContextNo}
 use Rattle.wx_id.specs.declared.numbers.ChannelNo.{ChannelNo}

@@ -1,5 +1,5 @@
 -- What the readers answer.
-use Rattle.std.specs.Prelude.{◌≡◌, ◌≤◌, ℕ, Bool, true, false, IsTrue, List, [], ◌∷◌, Option, Some, None, Result, Ok, Err, if◌then◌else◌}
+use Rattle.std.specs.Prelude.{◌≡◌, ◌≤◌, ℕ, Bool, true, false, IsTrue, List, [], ◌∷◌, Result, Ok, Err, if◌then◌else◌}
 use Rattle.wx_script.specs.declared.scene.SceneFault.{SceneFault}
 use Rattle.wx_script.specs.declared.scene.SceneKind.{SceneKind}
 use Rattle.wx_script.specs.declared.scene.SceneKind.TheVariants as kind
@@ -12,10 +12,10 @@ abbrev pub first_line : List ℕ → List ℕ
 first_line [] = []
 first_line (b ∷ bs) = if is_line_feed b then [] else b ∷ first_line bs
 
--- what stands behind the first line feed, if there is one
-abbrev pub behind_line : List ℕ → Option (List ℕ)
-behind_line [] = None
-behind_line (b ∷ bs) = if is_line_feed b then Some bs else behind_line bs
+-- what stands behind the first line feed
+abbrev pub behind_line : List ℕ → List ℕ
+behind_line [] = []
+behind_line (b ∷ bs) = if is_line_feed b then bs else behind_line bs
 
 abbrev pub FailsAs : {A : Type 0} → SceneReadFault → Result A SceneFault → Type 0
 FailsAs fault.NoMemory read = Unit {0}

@@ -1,6 +1,6 @@
 -- Which bytes are a scene, which scene they spell, and which line is the first faulty one.
 use Rattle.std.specs.Prelude.{ℕ, ◌+◌, Bool, List, [], ◌∷◌, Option, Some, None, Result, Ok, Err, ◌==◌, codes, if◌then◌else◌}
-use Rattle.std.specs.List.{slice_split}
+use Rattle.std.specs.List.{onto_first}
 use Rattle.std.specs.Str.{bytes_eq}
 use Rattle.wx_script.specs.declared.scene.SceneKind.{SceneKind}
 use Rattle.wx_script.specs.declared.scene.SceneKind.TheVariants as kind
@@ -12,9 +12,10 @@ use Rattle.wx_script.specs.SceneValue.{SceneValue}
 abbrev pub is_line_feed : ℕ → Bool
 is_line_feed b = b == 10
 
--- the texts between the line feeds: each but the last is a line, and the last stands behind them
+-- the lines of a text: each ends at its line feed, which the last may lack
 abbrev pub lines_of : List ℕ → List (List ℕ)
-lines_of text = slice_split is_line_feed text
+lines_of [] = []
+lines_of (b ∷ bs) = if is_line_feed b then [] ∷ lines_of bs else onto_first b (lines_of bs)
 
 -- a text that is none of the forms has the fault `Form`
 abbrev pub line_or_form : Draft → Option Line → Result Draft SceneKind
@@ -32,29 +33,19 @@ abbrev pub unless_faulty : {A B : Type 0} → ℕ → Result A SceneKind → (A 
 unless_faulty n (Ok x) f = f x
 unless_faulty n (Err k) f = Err (fault_at n k)
 
--- behind the last line feed stands nothing: a line without its line feed is none
-abbrev pub ended : ℕ → Draft → List ℕ → Result Draft SceneFault
-ended n d [] = Ok d
-ended n d (b ∷ bs) = Err (fault_at n kind.Form)
-
 -- the lines from the n-th on, one after another
 abbrev pub lines_added : ℕ → Draft → List (List ℕ) → Result Draft SceneFault
 lines_added n d [] = Ok d
-lines_added n d (text ∷ []) = ended n d text
-lines_added n d (text ∷ next ∷ texts) = unless_faulty n (text_added d text) (λ d. lines_added (n + 1) d (next ∷ texts))
+lines_added n d (text ∷ texts) = unless_faulty n (text_added d text) (λ d. lines_added (n + 1) d texts)
 
 abbrev pub scene_from : Result Draft SceneFault → Result SceneValue SceneFault
 scene_from (Ok d) = Ok (record { extensions = d.extensions; endpoints = d.endpoints })
 scene_from (Err e) = Err e
 
--- what stands behind the text of the head line: nothing, where that lacks its line feed
-abbrev pub behind_head : List (List ℕ) → Result SceneValue SceneFault
-behind_head [] = Err (fault_at 1 kind.Form)
-behind_head (text ∷ texts) = scene_from (lines_added 2 fresh (text ∷ texts))
-
+-- the first line is the head line
 abbrev pub headed : List (List ℕ) → Result SceneValue SceneFault
 headed [] = Err (fault_at 1 kind.Head)
-headed (head ∷ texts) = if bytes_eq head (codes "wx scene 1 chrome") then behind_head texts else Err (fault_at 1 kind.Head)
+headed (head ∷ texts) = if bytes_eq head (codes "wx scene 1 chrome") then scene_from (lines_added 2 fresh texts) else Err (fault_at 1 kind.Head)
 
 -- the scene that a text spells, or its first faulty line
 abbrev pub scene_of : List ℕ → Result SceneValue SceneFault

@@ -17,6 +17,11 @@ rest (b ∷ bs) = if b == 32 then Some bs else rest bs
 abbrev pub is_digit : ℕ → Bool
 is_digit b = nat_le 48 b && nat_le b 57
 
+-- at least one byte
+abbrev pub is_given : List ℕ → Bool
+is_given [] = false
+is_given (b ∷ bs) = true
+
 -- `a` to `z`
 abbrev pub is_letter : ℕ → Bool
 is_letter b = nat_le 97 b && nat_le b 122
@@ -34,12 +39,21 @@ is_identifier (b ∷ bs) = is_letter b && list_all is_name_byte bs && nat_lt (le
 abbrev pub is_name : List ℕ → Bool
 is_name text = is_identifier text && not (bytes_eq text (codes "same"))
 
--- the word that stands for an id: one or more printable bytes
-abbrev pub is_id_word : List ℕ → Bool
-is_id_word [] = false
-is_id_word (b ∷ bs) = is_printable (b ∷ bs)
+-- an id, a path or a port name: one or more printable bytes
+abbrev pub is_word : List ℕ → Bool
+is_word [] = false
+is_word (b ∷ bs) = is_printable (b ∷ bs)
 
--- the rest of a line: at least one byte
-abbrev pub is_given : List ℕ → Bool
-is_given [] = false
-is_given (b ∷ bs) = true
+-- decimal digits without a leading zero
+abbrev pub is_number : List ℕ → Bool
+is_number [] = false
+is_number (b ∷ bs) = list_all is_digit (b ∷ bs) && (not (b == 48) || not (is_given bs))
+
+-- how often something is done: from 1 to 1,000,000
+abbrev pub is_count : ℕ → Bool
+is_count n = nat_le 1 n && nat_le n 1000000
+
+-- a line that counts for nothing but its number: it is empty, or begins with `#`
+abbrev pub is_comment : List ℕ → Bool
+is_comment [] = true
+is_comment (b ∷ bs) = b == 35

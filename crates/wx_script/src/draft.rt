@@ -1,26 +1,32 @@
 ghost use Rattle.std.specs.Prelude.{◌≡◌, MatchResult, Some, None, [], OnOk, IfSome, ◌<◌, ◌^◌, length, IsTrue};
 ghost use Rattle.wx_machine.specs.Texts.{is_page_path};
 ghost use Rattle.wx_json.specs.Test.{is_json_text};
-ghost use Rattle.wx_script.specs.Adding.{so_far, Makes, MakesAct, IsJsonFault};
+ghost use Rattle.wx_script.specs.Adding.{so_far, Makes, MakesAct, IsUnbound, IsJsonFault, IsIndexed};
 ghost use Rattle.wx_machine.specs.declared.contexts.Context.TheVariants as context;
-ghost use Rattle.wx_script.specs.Draft.{place_or_next, extension_added, page_added, act_of, with_act, binding, channels_after, command_added, line_added, commands, HasRoom};
+ghost use Rattle.wx_script.specs.Draft as rules;
+ghost use Rattle.wx_script.specs.Draft.{fresh, extension_added, page_added, act_of, named_act, command_by, with_command, variables_after, command_added, line_added};
 ghost use Rattle.wx_script.specs.Names.{has_extension, has_endpoint, id_under, place_in};
-ghost use Rattle.wx_script.specs.Spelling.{IsNamedAct, IsLine};
-ghost use Rattle.wx_script.specs.View.{command_view, line_view};
+ghost use Rattle.wx_script.specs.Spelling.{IsLine};
+ghost use Rattle.wx_script.specs.View.{act_view, command_view, line_view};
 
-use crate::line::{Line, NamedAct};
+use crate::line::{Line, NamedAct, NamedCommand};
+use crate::names::Names;
 use crate::scene::{SceneEndpoint, SceneExtension, SceneKind};
 use crate::script::{Act, Command, Script, Var};
 use std::alloc::{AllocError, AllocFailed, Global};
 use wx_id::{ExtensionId, NoMemory, Utf8Text};
 use wx_machine::{Context, JsonText, PagePath, Target};
 
-/// The scene so far, and the variables that the last script binds.
+/// The scene so far, and the variables that the last script binds. Beside the lists stand the names and ids of
+/// what is in them, by which it is found.
 #[derive(Drop)]
 pub(crate) struct Draft {
     pub(crate) extensions: Vec<SceneExtension>,
+    pub(crate) extension_names: Names,
+    pub(crate) extension_ids: Names,
     pub(crate) endpoints: Vec<SceneEndpoint>,
-    pub(crate) channels: Vec<Utf8Text>,
+    pub(crate) endpoint_names: Names,
+    pub(crate) variables: Names,
 }
 
 /// Why a line is not taken.
@@ -63,64 +69,64 @@ impl<T: Drop> From<AllocFailed<T>> for LineFault {
     }
 }
 
-/// Whether an extension has this name or this id.
-fn is_taken(extensions: &[SceneExtension], name: &str, id: &str) -> bool
-    ensures { result ≡ has_extension name.now id.now extensions.now }
-{
-    for extension in extensions {
-        if extension.name.as_str() == name || extension.id.text() == id {
-            return true;
+impl Draft {
+    /// Nothing is declared.
+    pub(crate) fn new(alloc: Global) -> Draft
+        ensures fresh { so_far result ≡ fresh }
+        ensures indexed { IsIndexed result }
+    {
+        Draft {
+            extensions: Vec::new(alloc),
+            extension_names: Names::new(alloc),
+            extension_ids: Names::new(alloc),
+            endpoints: Vec::new(alloc),
+            endpoint_names: Names::new(alloc),
+            variables: Names::new(alloc),
         }
     }
-    false
-}
 
-/// Whether an endpoint has this name.
-fn is_endpoint(endpoints: &[SceneEndpoint], name: &str) -> bool
-    ensures { result ≡ has_endpoint name.now endpoints.now }
-{
-    for endpoint in endpoints {
-        if endpoint.name.as_str() == name {
-            return true;
-        }
+    /// Whether an extension has this name or this id.
+    fn has_extension(&self, name: &str, id: &str) -> bool
+        requires { IsIndexed self.now }
+        ensures { result ≡ has_extension name.now id.now self.now.extensions.items }
+    {
+        self.extension_names.contains(name) || self.extension_ids.contains(id)
     }
-    false
-}
 
-/// The id of the extension with this name.
-fn id_of(extensions: &[SceneExtension], name: &str) -> Option<ExtensionId>
-    ensures { result ≡ id_under name.now extensions.now }
-{
-    for extension in extensions {
-        if extension.name.as_str() == name {
-            return Some(extension.id);
-        }
+    /// Whether an endpoint has this name.
+    fn has_endpoint(&self, name: &str) -> bool
+        requires { IsIndexed self.now }
+        ensures { result ≡ has_endpoint name.now self.now.endpoints.items }
+    {
+        self.endpoint_names.contains(name)
     }
-    None
-}
 
-/// The number of a variable.
-fn place_of(channels: &[Utf8Text], name: &str) -> Option<usize>
-    ensures exact { result ≡ place_in name.now channels.now }
-    ensures within { IfSome result (λ n. n < length channels.now) }
-{
-    for (i, channel) in channels.iter().enumerate() {
-        if channel.as_str() == name {
-            return Some(i);
-        }
+    /// The id of the extension with this name.
+    #[tactic(auto, using(crate::proofs::NameLemmas::declared))]
+    fn id_under(&self, name: &str) -> Option<ExtensionId>
+        requires { IsIndexed self.now }
+        ensures { result ≡ id_under name.now self.now.extensions.items }
+    {
+        let place = self.extension_names.place(name)?;
+        let extension = self.extensions.get(place)?;
+        Some(extension.id)
     }
-    None
 }
 
+#[tactic(auto, using(crate::proofs::NameLemmas::declared))]
 fn add_extension(draft: &mut Draft, alloc: Global, name: &str, id: &[u8]) -> Result<(), LineFault>
-    ensures { Makes (so_far draft.new) result (extension_added (so_far draft.old) name.now id.now) }
+    requires { IsIndexed draft.old }
+    ensures made { Makes (so_far draft.new) result (extension_added (so_far draft.old) name.now id.now) }
+    ensures indexed { OnOk result (IsIndexed draft.new) }
 {
     let Ok(id) = ExtensionId::read(id) else {
         return Err(LineFault::Bad(SceneKind::Id));
     };
-    if is_taken(&draft.extensions, name, id.text()) {
+    if draft.has_extension(name, id.text()) {
         return Err(LineFault::Bad(SceneKind::Repeated));
     }
+    draft.extension_names.add(alloc, name)?;
+    draft.extension_ids.add(alloc, id.text())?;
     let name = Utf8Text::new(alloc, name)?;
     draft.extensions.push(SceneExtension { name, id })?;
     Ok(())
@@ -142,6 +148,7 @@ fn page(alloc: Global, name: &str, ext: ExtensionId, path: &str) -> Result<Scene
     })
 }
 
+#[tactic(auto, using(crate::proofs::NameLemmas::declared))]
 fn add_page(
     draft: &mut Draft,
     alloc: Global,
@@ -149,43 +156,54 @@ fn add_page(
     ext: &str,
     path: &str,
 ) -> Result<(), LineFault>
-    requires { IsTrue (is_page_path path.now) }
-    ensures { Makes (so_far draft.new) result (page_added (so_far draft.old) name.now ext.now path.now) }
+    requires path { IsTrue (is_page_path path.now) }
+    requires indexed { IsIndexed draft.old }
+    ensures made { Makes (so_far draft.new) result (page_added (so_far draft.old) name.now ext.now path.now) }
+    ensures indexed { OnOk result (IsIndexed draft.new) }
 {
-    if is_endpoint(&draft.endpoints, name) {
+    if draft.has_endpoint(name) {
         return Err(LineFault::Bad(SceneKind::Repeated));
     }
-    let Some(id) = id_of(&draft.extensions, ext) else {
+    let Some(id) = draft.id_under(ext) else {
         return Err(LineFault::Bad(SceneKind::Unknown));
     };
     if draft.endpoints.len() >= 1024 {
         return Err(LineFault::Bad(SceneKind::Many));
     }
+    draft.endpoint_names.add(alloc, name)?;
     let page = page(alloc, name, id, path)?;
     draft.endpoints.push(page)?;
-    draft.channels.clear();
+    draft.variables.clear();
     Ok(())
 }
 
-/// The number of a variable that a command uses.
-fn used(channels: &[Utf8Text], name: &str) -> Result<Var, LineFault>
-    requires { length channels.now < 2 ^ 32 }
-    ensures { MatchResult result (λ v. place_in name.now channels.now ≡ Some v.0) (λ e. (e ≡ LineFault.Bad SceneKind.Unbound) × (place_in name.now channels.now ≡ None)) }
+/// The variable with this place. A number of 2^32 or more is memory that cannot be had.
+fn numbered(place: usize) -> Result<Var, LineFault>
+    ensures { MatchResult result (λ v. v.0 ≡ place) (λ e. e ≡ LineFault.NoMemory) }
 {
-    match place_of(channels, name) {
-        Some(n) => Ok(Var(n as u32)),
+    match u32::try_from(place) {
+        Ok(n) => Ok(Var(n)),
+        Err(_) => Err(LineFault::NoMemory),
+    }
+}
+
+/// The variable that a command uses.
+fn used(variables: &Names, name: &str) -> Result<Var, LineFault>
+    ensures { MatchResult result (λ v. place_in name.now variables.now ≡ Some v.0) (IsUnbound (place_in name.now variables.now)) }
+{
+    match variables.place(name) {
+        Some(place) => numbered(place),
         None => Err(LineFault::Bad(SceneKind::Unbound)),
     }
 }
 
-/// The number of a variable that a command binds.
-fn bound(channels: &[Utf8Text], name: &str) -> Var
-    requires { length channels.now < 2 ^ 32 }
-    ensures { result.0 ≡ place_or_next (place_in name.now channels.now) channels.now }
+/// The variable that a command binds.
+fn bound(variables: &Names, name: &str) -> Result<Var, LineFault>
+    ensures { MatchResult result (λ v. v ≡ rules.bound name.now variables.now) (λ e. e ≡ LineFault.NoMemory) }
 {
-    match place_of(channels, name) {
-        Some(n) => Var(n as u32),
-        None => Var(channels.len() as u32),
+    match variables.place(name) {
+        Some(place) => numbered(place),
+        None => numbered(variables.len()),
     }
 }
 
@@ -200,94 +218,96 @@ fn json_text(alloc: Global, json: &[u8]) -> Result<JsonText, LineFault>
     }
 }
 
-/// A command with its variables' numbers.
-fn act(alloc: Global, channels: &[Utf8Text], command: NamedAct<'_>) -> Result<Act, LineFault>
-    requires spelled { IsNamedAct (command_view command) }
-    requires numbers { length channels.now < 2 ^ 32 }
-    ensures { MakesAct result (act_of channels.now (command_view command.entry)) }
+/// An act with its variable's number.
+fn numbered_act(alloc: Global, variables: &Names, act: NamedAct<'_>) -> Result<Act, LineFault>
+    ensures { MakesAct result (act_of variables.now (act_view act.entry)) }
 {
-    match command {
+    match act {
         NamedAct::Listen(listens) => Ok(Act::Listen(listens)),
-        NamedAct::Connect(name) => {
-            let var = bound(channels, name);
-            Ok(Act::Connect(var, Target::Own, Utf8Text::new(alloc, "")?))
+        NamedAct::Connect(name, port) => {
+            let var = bound(variables, name)?;
+            Ok(Act::Connect(var, Target::Own, Utf8Text::new(alloc, port)?))
         }
         NamedAct::Post(name, json) => {
-            let var = used(channels, name)?;
+            let var = used(variables, name)?;
             Ok(Act::Post(var, json_text(alloc, json)?))
         }
-        NamedAct::Disconnect(name) => Ok(Act::Disconnect(used(channels, name)?)),
+        NamedAct::Disconnect(name) => Ok(Act::Disconnect(used(variables, name)?)),
         NamedAct::Take => Ok(Act::Take),
-    }
-}
-
-/// How many commands the last endpoint has.
-#[tactic(auto, using(crate::proofs::DraftLemmas::last_endpoint))]
-fn commands_of(endpoints: &[SceneEndpoint]) -> u64
-    ensures { result ≡ commands endpoints.now }
-{
-    match endpoints.last() {
-        Some(endpoint) => endpoint.script.len(),
-        None => 0,
+        NamedAct::AwaitConnect(name) => Ok(Act::AwaitConnect(bound(variables, name)?)),
+        NamedAct::AwaitMessage(name) => Ok(Act::AwaitMessage(used(variables, name)?)),
+        NamedAct::AwaitClose(name) => Ok(Act::AwaitClose(used(variables, name)?)),
+        NamedAct::Echo(n) => Ok(Act::Echo(n)),
     }
 }
 
 /// Gives the last endpoint a command.
-fn push_act(endpoints: &mut Vec<SceneEndpoint>, act: Act) -> Result<(), AllocError>
+#[tactic(auto, using(crate::proofs::NameLemmas::declared))]
+fn push_command(endpoints: &mut Vec<SceneEndpoint>, command: Command) -> Result<(), AllocError>
     requires { 0 < length endpoints.old.items }
-    ensures { OnOk result (endpoints.new.items ≡ with_act act endpoints.old.items) }
+    ensures { OnOk result (endpoints.new.items ≡ with_command command endpoints.old.items) }
 {
     let last = endpoints.len() - 1;
-    endpoints[last].script.push(Command::Plain(act))
+    endpoints[last].script.push(command)
 }
 
-/// Binds a variable, if it is not bound yet.
-fn bind(channels: &mut Vec<Utf8Text>, alloc: Global, name: &str) -> Result<(), LineFault>
-    ensures { MatchResult result (λ _. channels.new.items ≡ binding name.now channels.old.items) (λ e. e ≡ LineFault.NoMemory) }
+/// Binds the variable of an act that binds one.
+fn bind_by(variables: &mut Names, alloc: Global, act: NamedAct<'_>) -> Result<(), AllocError>
+    ensures { OnOk result (variables.new ≡ variables_after variables.old (act_view act.entry)) }
 {
-    if place_of(channels, name).is_none() {
-        channels.push(Utf8Text::new(alloc, name)?)?;
-    }
-    Ok(())
-}
-
-fn bind_by(
-    channels: &mut Vec<Utf8Text>,
-    alloc: Global,
-    command: NamedAct<'_>,
-) -> Result<(), LineFault>
-    ensures { MatchResult result (λ _. channels.new.items ≡ channels_after channels.old.items (command_view command.entry)) (λ e. e ≡ LineFault.NoMemory) }
-{
-    match command {
-        NamedAct::Connect(name) => bind(channels, alloc, name),
+    match act {
+        NamedAct::Connect(name, _) => variables.add(alloc, name),
+        NamedAct::AwaitConnect(name) => variables.add(alloc, name),
         _ => Ok(()),
     }
 }
 
-fn add_command(draft: &mut Draft, alloc: Global, command: NamedAct<'_>) -> Result<(), LineFault>
-    requires spelled { IsNamedAct (command_view command) }
-    requires room { HasRoom (so_far draft.old) }
-    ensures { Makes (so_far draft.new) result (command_added (so_far draft.old) (command_view command.entry)) }
+impl<'a> NamedCommand<'a> {
+    /// What the command does, which a repeated one does again and again.
+    fn act(self) -> NamedAct<'a>
+        ensures { act_view result ≡ named_act (command_view self.entry) }
+    {
+        match self {
+            NamedCommand::Plain(act) => act,
+            NamedCommand::Repeat(_, act) => act,
+        }
+    }
+
+    /// The command with this act.
+    fn with_act(self, act: Act) -> Command
+        ensures { result ≡ command_by (command_view self.entry) act }
+    {
+        match self {
+            NamedCommand::Plain(_) => Command::Plain(act),
+            NamedCommand::Repeat(times, _) => Command::Repeat(times, act),
+        }
+    }
+}
+
+#[tactic(auto, using(crate::proofs::NameLemmas::declared))]
+fn add_command(draft: &mut Draft, alloc: Global, command: NamedCommand<'_>) -> Result<(), LineFault>
+    requires { IsIndexed draft.old }
+    ensures made { Makes (so_far draft.new) result (command_added (so_far draft.old) (command_view command.entry)) }
+    ensures indexed { OnOk result (IsIndexed draft.new) }
 {
     if draft.endpoints.is_empty() {
         return Err(LineFault::Bad(SceneKind::Order));
     }
-    let act = act(alloc, &draft.channels, command)?;
-    if commands_of(&draft.endpoints) >= 65534 {
-        return Err(LineFault::Bad(SceneKind::Many));
-    }
-    bind_by(&mut draft.channels, alloc, command)?;
-    push_act(&mut draft.endpoints, act)?;
+    let act = numbered_act(alloc, &draft.variables, command.act())?;
+    bind_by(&mut draft.variables, alloc, command.act())?;
+    push_command(&mut draft.endpoints, command.with_act(act))?;
     Ok(())
 }
 
 /// Takes one more line.
 pub(crate) fn add_line(draft: &mut Draft, alloc: Global, line: Line<'_>) -> Result<(), LineFault>
     requires spelled { IsLine (line_view line) }
-    requires room { HasRoom (so_far draft.old) }
-    ensures { Makes (so_far draft.new) result (line_added (so_far draft.old) (line_view line.entry)) }
+    requires indexed { IsIndexed draft.old }
+    ensures made { Makes (so_far draft.new) result (line_added (so_far draft.old) (line_view line.entry)) }
+    ensures indexed { OnOk result (IsIndexed draft.new) }
 {
     match line {
+        Line::Comment(_) => Ok(()),
         Line::Extension(name, id) => add_extension(draft, alloc, name, id),
         Line::Page(name, ext, path) => add_page(draft, alloc, name, ext, path),
         Line::Script(command) => add_command(draft, alloc, command),

@@ -3,8 +3,11 @@
 
 mod draft;
 pub mod endings;
+#[cfg(test)]
+mod fault_tests;
 pub mod laws;
 mod line;
+mod names;
 mod reading;
 mod scene;
 mod script;

@@ -2,27 +2,42 @@ ghost use Rattle.std.specs.Prelude.{◌≡◌, IfSome, IfNone};
 ghost use Rattle.std.specs.Option.{option_map};
 ghost use Rattle.wx_script.specs.Line as forms;
 ghost use Rattle.wx_script.specs.Spelling.{spelling, IsLine};
-ghost use Rattle.wx_script.specs.View.{command_view, line_view};
+ghost use Rattle.wx_script.specs.View.{act_view, command_view, line_view};
 
-use crate::word::{is_given, is_id_word, name, name_and_rest, path, split_word};
+use crate::word::{
+    count, is_comment, is_given, is_word, name, name_and_rest, path, port_name, split_word,
+};
 use wx_machine::Listens;
 
-/// A command with the names of its variables.
+/// What a command asks for, with the name of its variable.
 #[derive(Clone, Copy)]
 pub(crate) enum NamedAct<'a> {
     Listen(Listens),
-    Connect(&'a str),
+    Connect(&'a str, &'a str),
     Post(&'a str, &'a [u8]),
     Disconnect(&'a str),
     Take,
+    AwaitConnect(&'a str),
+    AwaitMessage(&'a str),
+    AwaitClose(&'a str),
+    Echo(u32),
+}
+
+/// A command as it stands in a script line.
+#[derive(Clone, Copy)]
+pub(crate) enum NamedCommand<'a> {
+    Plain(NamedAct<'a>),
+    Repeat(u32, NamedAct<'a>),
 }
 
 /// A line of a scene behind its head line.
 #[derive(Clone, Copy)]
 pub(crate) enum Line<'a> {
+    /// An empty line, or one that begins with `#`.
+    Comment(&'a [u8]),
     Extension(&'a str, &'a [u8]),
     Page(&'a str, &'a str, &'a str),
-    Script(NamedAct<'a>),
+    Script(NamedCommand<'a>),
 }
 
 #[tactic(auto, unfolding(crate::specs::Line::extension_at))]
@@ -30,7 +45,7 @@ fn extension_of(text: &[u8]) -> Option<Line<'_>>
     ensures { option_map line_view result ≡ forms.extension_at text.now }
 {
     let (name, id) = name_and_rest(text)?;
-    if is_id_word(id) {
+    if is_word(id) {
         Some(Line::Extension(name, id))
     } else {
         None
@@ -60,7 +75,7 @@ fn listens_to(connect: bool) -> Listens
 
 #[tactic(auto, unfolding(crate::specs::Line::listen_at))]
 fn listen_of(text: &[u8]) -> Option<NamedAct<'_>>
-    ensures { option_map command_view result ≡ forms.listen_at text.now }
+    ensures { option_map act_view result ≡ forms.listen_at text.now }
 {
     if text == b"none".as_slice() {
         Some(NamedAct::Listen(listens_to(false)))
@@ -71,21 +86,29 @@ fn listen_of(text: &[u8]) -> Option<NamedAct<'_>>
     }
 }
 
+/// The port name behind a target, empty where none is given.
+#[tactic(auto, unfolding(crate::specs::Line::port_name_at))]
+fn port_name_of(text: &[u8]) -> Option<&str>
+    ensures { option_map (λ name. name.now) result ≡ forms.port_name_at text.now }
+{
+    if text == b"own".as_slice() {
+        return Some("");
+    }
+    port_name(text.strip_prefix(b"own name ")?)
+}
+
 #[tactic(auto, unfolding(crate::specs::Line::connect_at))]
 fn connect_of(text: &[u8]) -> Option<NamedAct<'_>>
-    ensures { option_map command_view result ≡ forms.connect_at text.now }
+    ensures { option_map act_view result ≡ forms.connect_at text.now }
 {
     let (var, target) = name_and_rest(text)?;
-    if target == b"own".as_slice() {
-        Some(NamedAct::Connect(var))
-    } else {
-        None
-    }
+    let name = port_name_of(target)?;
+    Some(NamedAct::Connect(var, name))
 }
 
 #[tactic(auto, unfolding(crate::specs::Line::post_at))]
 fn post_of(text: &[u8]) -> Option<NamedAct<'_>>
-    ensures { option_map command_view result ≡ forms.post_at text.now }
+    ensures { option_map act_view result ≡ forms.post_at text.now }
 {
     let (var, json) = name_and_rest(text)?;
     if is_given(json) {
@@ -97,14 +120,54 @@ fn post_of(text: &[u8]) -> Option<NamedAct<'_>>
 
 #[tactic(auto, unfolding(crate::specs::Line::disconnect_at))]
 fn disconnect_of(text: &[u8]) -> Option<NamedAct<'_>>
-    ensures { option_map command_view result ≡ forms.disconnect_at text.now }
+    ensures { option_map act_view result ≡ forms.disconnect_at text.now }
 {
     Some(NamedAct::Disconnect(name(text)?))
 }
 
-#[tactic(auto, unfolding(crate::specs::Line::command_at, crate::specs::Line::command_with))]
-fn command_of(text: &[u8]) -> Option<NamedAct<'_>>
-    ensures { option_map command_view result ≡ forms.command_at text.now }
+#[tactic(auto, unfolding(crate::specs::Line::await_at, crate::specs::Line::await_with))]
+fn await_of(text: &[u8]) -> Option<NamedAct<'_>>
+    ensures { option_map act_view result ≡ forms.await_at text.now }
+{
+    let (event, rest) = split_word(text);
+    let rest = rest?;
+    if event == b"connect".as_slice() {
+        Some(NamedAct::AwaitConnect(name(rest)?))
+    } else if event == b"message".as_slice() {
+        Some(NamedAct::AwaitMessage(name(rest)?))
+    } else if event == b"close".as_slice() {
+        Some(NamedAct::AwaitClose(name(rest)?))
+    } else {
+        None
+    }
+}
+
+#[tactic(auto, unfolding(crate::specs::Line::echo_at))]
+fn echo_of(text: &[u8]) -> Option<NamedAct<'_>>
+    ensures { option_map act_view result ≡ forms.echo_at text.now }
+{
+    Some(NamedAct::Echo(count(text)?))
+}
+
+/// An act on a channel, by its first word and what stands behind that.
+#[tactic(auto, unfolding(crate::specs::Line::channel_act_with))]
+fn channel_act_of<'a>(word: &[u8], rest: &'a [u8]) -> Option<NamedAct<'a>>
+    ensures { option_map act_view result ≡ forms.channel_act_with word.now rest.now }
+{
+    if word == b"connect".as_slice() {
+        connect_of(rest)
+    } else if word == b"post".as_slice() {
+        post_of(rest)
+    } else if word == b"disconnect".as_slice() {
+        disconnect_of(rest)
+    } else {
+        None
+    }
+}
+
+#[tactic(auto, unfolding(crate::specs::Line::act_at, crate::specs::Line::act_with))]
+fn act_of(text: &[u8]) -> Option<NamedAct<'_>>
+    ensures { option_map act_view result ≡ forms.act_at text.now }
 {
     if text == b"take".as_slice() {
         return Some(NamedAct::Take);
@@ -113,14 +176,32 @@ fn command_of(text: &[u8]) -> Option<NamedAct<'_>>
     let rest = rest?;
     if word == b"listen".as_slice() {
         listen_of(rest)
-    } else if word == b"connect".as_slice() {
-        connect_of(rest)
-    } else if word == b"post".as_slice() {
-        post_of(rest)
-    } else if word == b"disconnect".as_slice() {
-        disconnect_of(rest)
+    } else if word == b"await".as_slice() {
+        await_of(rest)
+    } else if word == b"echo".as_slice() {
+        echo_of(rest)
     } else {
-        None
+        channel_act_of(word, rest)
+    }
+}
+
+#[tactic(auto, unfolding(crate::specs::Line::repeat_at))]
+fn repeat_of(text: &[u8]) -> Option<NamedCommand<'_>>
+    ensures { option_map command_view result ≡ forms.repeat_at text.now }
+{
+    let (word, rest) = split_word(text);
+    let times = count(word)?;
+    let act = act_of(rest?)?;
+    Some(NamedCommand::Repeat(times, act))
+}
+
+#[tactic(auto, unfolding(crate::specs::Line::command_at))]
+fn command_of(text: &[u8]) -> Option<NamedCommand<'_>>
+    ensures { option_map command_view result ≡ forms.command_at text.now }
+{
+    match text.strip_prefix(b"repeat ") {
+        Some(repeated) => repeat_of(repeated),
+        None => Some(NamedCommand::Plain(act_of(text)?)),
     }
 }
 
@@ -143,6 +224,9 @@ fn declaration_of(text: &[u8]) -> Option<Line<'_>>
 fn read_line(text: &[u8]) -> Option<Line<'_>>
     ensures { option_map line_view result ≡ forms.line_at text.now }
 {
+    if is_comment(text) {
+        return Some(Line::Comment(text));
+    }
     match text.strip_prefix(b"  ") {
         Some(command) => Some(Line::Script(command_of(command)?)),
         None => declaration_of(text),

@@ -1,4 +1,5 @@
 ghost use Rattle.std.specs.Prelude.{◌≡◌};
+ghost use Rattle.wx_script.specs.Sound.{AreSound};
 
 use crate::script::Script;
 use std::marker::Model;
@@ -77,15 +78,19 @@ pub struct Scene {
 
 impl Model for Scene {
     ghost use Rattle.wx_script.specs.SceneValue.{SceneValue};
+    ghost use Rattle.wx_script.specs.Sound.{AreSound};
 
     ghost Value = { SceneValue };
 
     ghost view = { λ scene. record { extensions = scene.extensions.items; endpoints = scene.endpoints.items } };
+
+    ghost invariant = { λ scene. AreSound scene.endpoints.items };
 }
 
 impl Scene {
     /// The scene of these parts.
     pub(crate) fn new(extensions: Vec<SceneExtension>, endpoints: Vec<SceneEndpoint>) -> Scene
+        requires { AreSound endpoints.items }
         ensures { result ≡ record { extensions = extensions.items; endpoints = endpoints.items } }
     {
         Scene {
@@ -103,7 +108,8 @@ impl Scene {
 
     /// Its endpoints in order.
     pub fn endpoints(&self) -> &[SceneEndpoint]
-        ensures { result.now ≡ self.now.endpoints }
+        ensures value { result.now ≡ self.now.endpoints }
+        ensures sound { AreSound self.now.endpoints }
     {
         self.endpoints.as_slice()
     }

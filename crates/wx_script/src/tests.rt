@@ -15,159 +15,97 @@ fn read_behind_head(alloc: Global, lines: &str) -> Result<Scene, SceneReadFault>
     }
 }
 
-fn is_fault(read: Result<Scene, SceneReadFault>, line: u64, kind: SceneKind) -> bool {
+pub(crate) fn is_fault(read: Result<Scene, SceneReadFault>, line: u64, kind: SceneKind) -> bool {
     match read {
         Ok(_) => false,
         Err(fault) => fault == SceneReadFault::Bad(SceneFault { line, kind }),
     }
 }
 
-const X: &str = "extension x aaaaaaaaaaaaaaaaaaaaaaaaaaaaaaaa\n";
+/// The head line, an extension, and so many of its pages.
+pub(crate) fn pages(alloc: Global, count: u64) -> Result<String, AllocError> {
+    let mut text = String::from_str(
+        alloc,
+        "wx scene 1 chrome\nextension x aaaaaaaaaaaaaaaaaaaaaaaaaaaaaaaa\n",
+    )?;
+    for i in 0..count {
+        text.push_str(&format!(in alloc; "page p{i} x /p\n")?)?;
+    }
+    Ok(text)
+}
 
 #[test]
-fn faults_and_their_lines(rt: HostRuntime) -> Result<(), Fail> {
-    let page = "extension x aaaaaaaaaaaaaaaaaaaaaaaaaaaaaaaa\npage p x /p\n";
-    for (above, below, line, kind) in [
-        ("", "\n", 2, SceneKind::Form),
-        ("", "# a scene\n", 2, SceneKind::Form),
-        ("", "extension x abc\n", 2, SceneKind::Id),
-        (
-            "",
-            "extension x aaaaaaaaaaaaaaaaaaaaaaaaaaaaaaaq\n",
-            2,
-            SceneKind::Id,
-        ),
-        (
-            "",
-            "extension X aaaaaaaaaaaaaaaaaaaaaaaaaaaaaaaa\n",
-            2,
-            SceneKind::Form,
-        ),
-        (
-            "",
-            "extension same aaaaaaaaaaaaaaaaaaaaaaaaaaaaaaaa\n",
-            2,
-            SceneKind::Form,
-        ),
-        (
-            "",
-            "extension a23456789012345678901234567890123 abc\n",
-            2,
-            SceneKind::Form,
-        ),
-        (
-            "",
-            "extension a2345678901234567890123456789012 abc\n",
-            2,
-            SceneKind::Id,
-        ),
-        ("", "  take\n", 2, SceneKind::Order),
-        ("", "page p x /p\n", 2, SceneKind::Unknown),
-        ("", "page  p x /p\n", 2, SceneKind::Form),
-        ("", "page p x p\n", 2, SceneKind::Form),
-        ("", "page p x /p \n", 2, SceneKind::Form),
-        ("", "host e.json\n", 2, SceneKind::Form),
-        (
-            X,
-            "extension y aaaaaaaaaaaaaaaaaaaaaaaaaaaaaaaa\n",
-            3,
-            SceneKind::Repeated,
-        ),
-        (
-            X,
-            "extension x aaaaaaaaaaaaaaaaaaaaaaaaaaaaaaab\n",
-            3,
-            SceneKind::Repeated,
-        ),
-        (page, "page p nobody /p\n", 4, SceneKind::Repeated),
-        (page, "page q nobody /p\n", 4, SceneKind::Unknown),
-        (page, "  post ch 1\n", 4, SceneKind::Unbound),
-        (page, "  disconnect ch\n", 4, SceneKind::Unbound),
-        (
-            page,
-            "  connect ch own\npage q x /q\n  post ch 1\n",
-            6,
-            SceneKind::Unbound,
-        ),
-        (page, "  connect ch own\n  post ch 01\n", 5, SceneKind::Json),
-        (page, "  connect ch own\n  post ch \n", 5, SceneKind::Form),
-        (
-            page,
-            "  connect ch own\n  post ch [1,]\n",
-            5,
-            SceneKind::Json,
-        ),
-        (page, "  post ch {\n", 4, SceneKind::Unbound),
-        (page, "  connect same own\n", 4, SceneKind::Form),
-        (page, "  connect ch own name n\n", 4, SceneKind::Form),
-        (page, "  listen message\n", 4, SceneKind::Form),
-        (page, "   take\n", 4, SceneKind::Form),
-        (page, "  take", 4, SceneKind::Form),
-        (page, "  post ch 1", 4, SceneKind::Form),
-    ] {
-        let lines = format!(in rt.alloc(); "{above}{below}")?;
-        let read = read_behind_head(rt.alloc(), &lines);
-        assert!(rt; is_fault(read, line, kind), "{below}");
+fn most_endpoints(rt: HostRuntime) -> Result<(), Fail> {
+    match Scene::read(rt.alloc(), pages(rt.alloc(), 1024)?.as_bytes()) {
+        Ok(scene) => assert_eq!(rt; scene.endpoints().len(), 1024),
+        Err(_) => assert!(rt; false),
     }
     Ok(())
 }
 
+/// How many endpoints a scene has, and how many commands the last of them.
+fn sizes(read: Result<Scene, SceneReadFault>) -> Option<(u64, u64)> {
+    let scene = read.ok()?;
+    let commands = match scene.endpoints().last() {
+        Some(endpoint) => endpoint.script.len(),
+        None => 0,
+    };
+    Some((scene.endpoints().len() as u64, commands))
+}
+
+const PAGE: &str = "wx scene 1 chrome\nextension x aaaaaaaaaaaaaaaaaaaaaaaaaaaaaaaa\npage p x /p\n";
+
 #[test]
-fn head_lines(rt: HostRuntime) {
-    for (bytes, kind) in [
-        (b"".as_slice(), SceneKind::Head),
-        (b"\n".as_slice(), SceneKind::Head),
-        (b"wx scene 1 mdn\n".as_slice(), SceneKind::Head),
-        (b"wx scene 1 chrome\r\n".as_slice(), SceneKind::Head),
-        (b"wx scene 1 chrome".as_slice(), SceneKind::Form),
+fn scenes_that_are_read(rt: HostRuntime) -> Result<(), Fail> {
+    for (above, below, endpoints, commands) in [
+        ("", "wx scene 1 chrome", 0, 0),
+        ("", "wx scene 1 chrome\n", 0, 0),
+        ("", "wx scene 1 chrome\n\n", 0, 0),
+        ("", "wx scene 1 chrome\n# a comment", 0, 0),
+        ("", "wx scene 1 chrome\n#\n\n#\t\r\n", 0, 0),
+        (PAGE, "", 1, 0),
+        (PAGE, "  take", 1, 1),
+        (PAGE, "  take\n# a comment\n\n  take\n", 1, 2),
+        (
+            PAGE,
+            "extension y bbbbbbbbbbbbbbbbbbbbbbbbbbbbbbbb\n  take\n",
+            1,
+            1,
+        ),
+        (
+            PAGE,
+            "extension p bbbbbbbbbbbbbbbbbbbbbbbbbbbbbbbb\npage x p /\n",
+            2,
+            0,
+        ),
+        (PAGE, "page a2345678901234567890123456789012 x /p\n", 2, 0),
+        (PAGE, "  connect ch own name same\n", 1, 1),
+        (PAGE, "  connect ch own name own\n  post ch  1\n", 1, 2),
+        (
+            PAGE,
+            "  connect ch own\n  post ch {\"a\": [1, 2]} \r\n",
+            1,
+            2,
+        ),
+        (
+            PAGE,
+            "  await connect ch\n  await message ch\n  await close ch\n",
+            1,
+            3,
+        ),
+        (PAGE, "  echo 1\n  echo 1000000\n", 1, 2),
+        (
+            PAGE,
+            "  repeat 1 take\n  repeat 1000000 listen none\n",
+            1,
+            2,
+        ),
+        (PAGE, "  repeat 2 await connect ch\n  disconnect ch\n", 1, 2),
     ] {
-        assert!(rt; is_fault(Scene::read(rt.alloc(), bytes), 1, kind));
+        let text = format!(in rt.alloc(); "{above}{below}")?;
+        let read = Scene::read(rt.alloc(), text.as_bytes());
+        assert_eq!(rt; sizes(read), Some((endpoints, commands)), "{below}");
     }
-    match Scene::read(rt.alloc(), b"wx scene 1 chrome\n") {
-        Ok(scene) => {
-            assert_eq!(rt; scene.extensions().len(), 0);
-            assert_eq!(rt; scene.endpoints().len(), 0);
-        }
-        Err(_) => assert!(rt; false),
-    }
-}
-
-/// The lines of so many pages.
-fn pages(alloc: Global, count: u64) -> Result<String, AllocError> {
-    let mut lines = String::from_str(alloc, X)?;
-    for i in 0..count {
-        lines.push_str(&format!(in alloc; "page p{i} x /p\n")?)?;
-    }
-    Ok(lines)
-}
-
-/// A page with so many commands.
-fn takes(alloc: Global, count: u64) -> Result<String, AllocError> {
-    let mut lines = String::from_str(alloc, X)?;
-    lines.push_str("page p x /p\n")?;
-    for _turn in 0..count {
-        lines.push_str("  take\n")?;
-    }
-    Ok(lines)
-}
-
-#[test]
-fn limits(rt: HostRuntime) -> Result<(), Fail> {
-    match read_behind_head(rt.alloc(), &pages(rt.alloc(), 1024)?) {
-        Ok(scene) => assert_eq!(rt; scene.endpoints().len(), 1024),
-        Err(_) => assert!(rt; false),
-    }
-    let read = read_behind_head(rt.alloc(), &pages(rt.alloc(), 1025)?);
-    assert!(rt; is_fault(read, 1027, SceneKind::Many));
-    match read_behind_head(rt.alloc(), &takes(rt.alloc(), 65534)?) {
-        Ok(scene) => match scene.endpoints().first() {
-            Some(page) => assert_eq!(rt; page.script.len(), 65534),
-            None => assert!(rt; false),
-        },
-        Err(_) => assert!(rt; false),
-    }
-    let read = read_behind_head(rt.alloc(), &takes(rt.alloc(), 65535)?);
-    assert!(rt; is_fault(read, 65538, SceneKind::Many));
     Ok(())
 }
 
@@ -214,6 +152,32 @@ fn two_pages(rt: HostRuntime) {
                 _ => assert!(rt; false),
             }
         }
+        _ => assert!(rt; false),
+    }
+}
+
+#[test]
+fn awaits_echo_and_repeat(rt: HostRuntime) {
+    let lines =
+        "extension x aaaaaaaaaaaaaaaaaaaaaaaaaaaaaaaa\npage p x /p\n  await connect a\n  await message a\n  repeat 3 connect b own name n\n# a comment\n\n  await close b\n  echo 20";
+    let Ok(scene) = read_behind_head(rt.alloc(), lines) else {
+        assert!(rt; false);
+        return;
+    };
+    match scene.endpoints() {
+        [p] => match p.script.commands() {
+            [
+                Command::Plain(Act::AwaitConnect(a)),
+                Command::Plain(Act::AwaitMessage(b)),
+                Command::Repeat(times, Act::Connect(c, _, name)),
+                Command::Plain(Act::AwaitClose(d)),
+                Command::Plain(Act::Echo(answers)),
+            ] => {
+                assert!(rt; a.0 == 0 && b.0 == 0 && c.0 == 1 && d.0 == 1);
+                assert!(rt; *times == 3 && *answers == 20 && name.as_str() == "n");
+            }
+            _ => assert!(rt; false),
+        },
         _ => assert!(rt; false),
     }
 }

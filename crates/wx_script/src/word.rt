@@ -5,6 +5,8 @@ ghost use Rattle.wx_machine.specs.Texts as texts;
 ghost use Rattle.wx_script.specs.Words as words;
 ghost use Rattle.wx_script.specs.Line as forms;
 
+use wx_machine::{are_printable, is_page_path};
+
 /// The bytes up to the first space, and what stands behind that space.
 pub(crate) fn split_word(text: &[u8]) -> (&[u8], Option<&[u8]>)
     ensures word { result.0.now ≡ words.word text.now }
@@ -72,24 +74,23 @@ pub(crate) fn name_and_rest(text: &[u8]) -> Option<(&str, &[u8])>
     Some((name, rest))
 }
 
-fn is_printable(text: &[u8]) -> bool
-    ensures { result ≡ texts.is_printable text.now }
+pub(crate) fn is_word(text: &[u8]) -> bool
+    ensures { result ≡ words.is_word text.now }
 {
-    text.iter().all(|byte| byte.is_ascii_graphic())
+    !text.is_empty() && are_printable(text)
 }
 
-pub(crate) fn is_id_word(text: &[u8]) -> bool
-    ensures { result ≡ words.is_id_word text.now }
+/// The port name that a word is.
+#[tactic(auto, using(crate::proofs::WordLemmas::words_are_utf8))]
+pub(crate) fn port_name(word: &[u8]) -> Option<&str>
+    ensures { option_map (λ name. name.now) result ≡ forms.where_so (words.is_word word.now) word.now }
 {
-    !text.is_empty() && is_printable(text)
-}
-
-fn is_path(text: &[u8]) -> bool
-    ensures { result ≡ texts.is_page_path text.now }
-{
-    match text.split_first() {
-        Some((first, others)) => *first == b'/' && is_printable(others),
-        None => false,
+    if !is_word(word) {
+        return None;
+    }
+    match str::from_utf8(word) {
+        Ok(name) => Some(name),
+        Err(_) => unreachable!(),
     }
 }
 
@@ -98,12 +99,64 @@ fn is_path(text: &[u8]) -> bool
 pub(crate) fn path(word: &[u8]) -> Option<&str>
     ensures { option_map (λ path. path.now) result ≡ forms.where_so (texts.is_page_path word.now) word.now }
 {
-    if !is_path(word) {
+    if !is_page_path(word) {
         return None;
     }
     match str::from_utf8(word) {
         Ok(path) => Some(path),
         Err(_) => unreachable!(),
+    }
+}
+
+fn are_digits(text: &[u8]) -> bool
+    ensures { result ≡ list_all words.is_digit text.now }
+{
+    text.iter().all(|byte| byte.is_ascii_digit())
+}
+
+fn is_number(text: &[u8]) -> bool
+    ensures { result ≡ words.is_number text.now }
+{
+    match text.split_first() {
+        Some((first, others)) => are_digits(text) && (*first != b'0' || others.is_empty()),
+        None => false,
+    }
+}
+
+/// The number that a word is, without leading zeros.
+#[tactic(auto, unfolding(crate::specs::Line::number_at), using(crate::proofs::NumberLemmas::numbers))]
+fn number(word: &[u8]) -> Option<u32>
+    ensures { result ≡ forms.number_at word.now }
+{
+    if !is_number(word) {
+        return None;
+    }
+    match str::from_utf8(word) {
+        Ok(digits) => digits.parse().ok(),
+        Err(_) => unreachable!(),
+    }
+}
+
+/// The number from 1 to 1,000,000 that a word is.
+#[tactic(auto, unfolding(crate::specs::Line::count_at))]
+pub(crate) fn count(word: &[u8]) -> Option<u32>
+    ensures { result ≡ forms.count_at word.now }
+{
+    let n = number(word)?;
+    if 1 <= n && n <= 1_000_000 {
+        Some(n)
+    } else {
+        None
+    }
+}
+
+/// Whether a line is empty or begins with `#`.
+pub(crate) fn is_comment(text: &[u8]) -> bool
+    ensures { result ≡ words.is_comment text.now }
+{
+    match text.first() {
+        Some(first) => *first == b'#',
+        None => true,
     }
 }
 
