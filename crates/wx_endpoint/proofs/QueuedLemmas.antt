@@ -5,21 +5,24 @@ use Rattle.std.proofs.lemmas.List.{reverse-append, length-reverse}
 use Rattle.wx_id.specs.declared.numbers.ContextNo.{ContextNo}
 use Rattle.wx_id.specs.declared.numbers.ChannelNo.{ChannelNo}
 use Rattle.wx_id.specs.declared.numbers.EntryNo.{EntryNo}
+use Rattle.wx_id.specs.declared.numbers.RequestNo.{RequestNo}
 use Rattle.wx_id.specs.declared.events.Event.{Event}
 use Rattle.wx_id.specs.declared.events.EventKind.{EventKind}
-use Rattle.wx_id.specs.declared.events.EventKind.TheVariants.{Connected, Message, Disconnected}
+use Rattle.wx_id.specs.declared.events.EventKind.TheVariants.{Connected, Message, Disconnected, Asked, Replied, Closed}
 use Rattle.wx_machine.specs.declared.world.World.{World}
 use Rattle.wx_machine.specs.declared.entries.Who.{Who}
 use Rattle.wx_machine.specs.declared.entries.Who.TheVariants.{Context as ByContext}
 use Rattle.wx_machine.specs.declared.entries.Call.{Call}
-use Rattle.wx_machine.specs.declared.entries.Call.TheVariants.{Leave, Post, Disconnect, Take}
+use Rattle.wx_machine.specs.declared.entries.Call.TheVariants.{Leave, Post, Disconnect, Reply, Decline, Take}
 use Rattle.wx_machine.specs.declared.entries.Answer.{Answer}
-use Rattle.wx_machine.specs.declared.entries.Answer.TheVariants.{Event as Told, Gone, Posted}
+use Rattle.wx_machine.specs.declared.entries.Answer.TheVariants.{Event as Told, Gone, Posted, First}
 use Rattle.wx_machine.specs.declared.entries.Entry.{Entry}
 use Rattle.wx_machine.specs.Answers.{answer_after, told_or_empty}
 use Rattle.wx_machine.specs.Carried.{text_in, text_carried, text_of}
 use Rattle.wx_machine.specs.Contexts.{is_live}
-use Rattle.wx_machine.specs.Events.{on, message, disconnected_on, disconnected, tells, marked, delivered, queued, is_waiting, pending, first}
+use Rattle.wx_machine.specs.Channels.{opens, channels, end_in}
+use Rattle.wx_machine.specs.Requests.{asks, requests, is_asked}
+use Rattle.wx_machine.specs.Events.{on, is_receiving, connected, message, disconnected_on, disconnected, asked, replied, unanswered_on, unanswered, of_channels, of_requests, tells, marked, delivered, queued, is_waiting, pending, first}
 
 -- ---- texts stay
 
@@ -73,14 +76,12 @@ Every-on P false kind is = tt
 
 -- where the event is a message, the entry carries a text
 abbrev pub IsCarried : List Entry → EntryNo → EventKind → Type 0
-IsCarried past e (Connected k) = Unit {0}
 IsCarried past e (Message k) = (text : List ℕ) × (text_of past e ≡ Some text)
-IsCarried past e (Disconnected k) = Unit {0}
+IsCarried past e _ = Unit {0}
 
 pub carried_stays : (e : Entry) (past : List Entry) (n : EntryNo) (kind : EventKind) → IsCarried past n kind → IsCarried (e ∷ past) n kind
-carried_stays e past n (Connected k) is = tt
 carried_stays e past n (Message k) is = (is.0, text_stays (e ∷ []) past n is.0 is.1)
-carried_stays e past n (Disconnected k) is = tt
+carried_stays e past n _ is = tt
 
 each_stays : (e : Entry) (past : List Entry) (events : List Event) → Every (λ (v : Event). IsCarried past v.entry v.kind) events → Every (λ (v : Event). IsCarried (e ∷ past) v.entry v.kind) events
 each_stays e past [] all = tt
@@ -96,14 +97,44 @@ ends_told P past e (Disconnect k) c told = Every-on P _ (Disconnected k) (told k
 ends_told P past e Leave c told = Every-flat_map P (disconnected_on past e c) _ (λ k. Every-on P _ (Disconnected (record { 0 = k })) (told (record { 0 = k })))
 ends_told P past e _ c told = tt
 
+replies_told : (P : EventKind → Type 0) (past : List Entry) (x : Call) (a : Answer) (c : ContextNo) → ((r : RequestNo) → P (Replied r)) → Every P (replied past x a c)
+replies_told P past (Reply r text) First c told = Every-on P _ (Replied r) (told r)
+replies_told P past _ _ c told = tt
+
+unanswered_told : (P : EventKind → Type 0) (past : List Entry) (e : Entry) (x : Call) (c : ContextNo) → ((r : RequestNo) → P (Closed r)) → Every P (unanswered past e x c)
+unanswered_told P past e (Decline r) c told = Every-on P _ (Closed (record { 0 = r.0 })) (told (record { 0 = r.0 }))
+unanswered_told P past e Leave c told = Every-flat_map P (unanswered_on past e c) _ (λ r. Every-on P _ (Closed (record { 0 = r })) (told (record { 0 = r })))
+unanswered_told P past e _ c told = tt
+
+channels_carried : (P : EventKind → Type 0) (past : List Entry) (e : Entry) (c : ContextNo)
+    → ((k : ChannelNo) → P (Connected k)) → ((k : ChannelNo) (text : List ℕ) → text_in e.call ≡ Some text → P (Message k)) → ((k : ChannelNo) → P (Disconnected k)) → Every P (of_channels past e c)
+channels_carried P past e c opened posted ended =
+    let begins : List EventKind = connected (length (channels past)) (opens past e) c in
+    let says : List EventKind = message past e.who e.call e.answer c in
+    Every-append P (begins ++ says) (disconnected past e e.call c)
+    (Every-append P begins says
+    (Every-on P (is_receiving (end_in (opens past e) c)) (Connected (record { 0 = length (channels past) })) (opened (record { 0 = length (channels past) })))
+    (messages_posted P past e.who e.call e.answer c posted))
+    (ends_told P past e e.call c ended)
+
+requests_carried : (P : EventKind → Type 0) (past : List Entry) (e : Entry) (c : ContextNo)
+    → ((r : RequestNo) → P (Asked r)) → ((r : RequestNo) → P (Replied r)) → ((r : RequestNo) → P (Closed r)) → Every P (of_requests past e c)
+requests_carried P past e c sent answered closed =
+    let begins : List EventKind = asked (length (requests past)) (asks past e) c in
+    let says : List EventKind = replied past e.call e.answer c in
+    Every-append P (begins ++ says) (unanswered past e e.call c)
+    (Every-append P begins says
+    (Every-on P (is_asked (asks past e) c) (Asked (record { 0 = length (requests past) })) (sent (record { 0 = length (requests past) })))
+    (replies_told P past e.call e.answer c answered))
+    (unanswered_told P past e e.call c closed)
+
 delivered_carried : (e : Entry) (past : List Entry) (c : ContextNo) → Every (λ (v : Event). IsCarried (e ∷ past) v.entry v.kind) (delivered past e c)
 delivered_carried e past c =
-    let n : EntryNo = record { 0 = length past } in
-    let P : EventKind → Type 0 = λ kind. IsCarried (e ∷ past) n kind in
+    let P : EventKind → Type 0 = λ kind. IsCarried (e ∷ past) (record { 0 = length past }) kind in
     Every-map (λ (v : Event). IsCarried (e ∷ past) v.entry v.kind) (marked (length past)) (tells past e c)
-    (Every-append P _ _
-    (Every-append P _ _ (Every-on P _ (Connected _) tt) (messages_posted P past e.who e.call e.answer c (λ k text is. (text, text_newest e past ∙ is))))
-    (ends_told P past e e.call c (λ k. tt)))
+    (Every-append P (of_channels past e c) (of_requests past e c)
+    (channels_carried P past e c (λ k. tt) (λ k text is. (text, text_newest e past ∙ is)) (λ k. tt))
+    (requests_carried P past e c (λ r. tt) (λ r. tt) (λ r. tt)))
 
 queued_carried : (past : List Entry) (c : ContextNo) → Every (λ (v : Event). IsCarried past v.entry v.kind) (queued past c)
 queued_carried [] c = tt

@@ -5,7 +5,7 @@ use Rattle.wx_id.specs.declared.numbers.ContextNo.{ContextNo}
 use Rattle.wx_id.specs.declared.numbers.EntryNo.{EntryNo}
 use Rattle.wx_id.specs.declared.events.Event.{Event}
 use Rattle.wx_id.specs.declared.events.EventKind.{EventKind}
-use Rattle.wx_id.specs.declared.events.EventKind.TheVariants.{Connected, Message, Disconnected}
+use Rattle.wx_id.specs.declared.events.EventKind.TheVariants.{Message}
 use Rattle.wx_machine.specs.declared.world.World.{World}
 use Rattle.wx_machine.specs.declared.entries.Call.TheVariants.{Take}
 use Rattle.wx_machine.specs.declared.entries.Answer.{Answer}
@@ -37,9 +37,8 @@ stays_whole e past (within (answering n k i) acts variables) whole = carried_sta
 stays_whole e past _ whole = tt
 
 heard_whole : (past : List Entry) (n : ℕ) (i : EntryNo) (kind : EventKind) (acts : List Act) (variables : Variables) → IsCarried past i kind → HasNoGap past (within (heard n i kind) acts variables)
-heard_whole past n i (Connected k) acts variables carried = tt
 heard_whole past n i (Message k) acts variables carried = carried
-heard_whole past n i (Disconnected k) acts variables carried = tt
+heard_whole past n i _ acts variables carried = tt
 
 taken_whole : (world : World) (past : List Entry) (e : Entry) (n : ℕ) (acts : List Act) (variables : Variables) (a : Answer) → e.answer ≡ a → FollowsMachine world past e → e.call ≡ Take
     → HasNoGap (e ∷ past) (within (behind_event n (event_in a)) acts variables)
