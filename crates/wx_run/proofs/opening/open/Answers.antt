@@ -28,7 +28,7 @@ loop-endpoint-preserved c =
     let items = c.endpoints-endpoint-items.result.now in
     let ok : is_ok c.push.result ≡ true = search rules in
     let at : slice_get endpoints i ≡ Some c.endpoint-item.result =
-    subst (λ es. slice_get es i ≡ Some c.endpoint-item.result) c.endpoints-endpoint-items.ensures
+    subst (λ es. slice_get es i ≡ Some c.endpoint-item.result) c.endpoints-endpoint-items.ensures.value
     (slice_get_read items (length items) i c.endpoint-item.result refl c.loop-endpoint-test.true c.endpoint-item.is) in
     let opened : IsOpened world c.endpoint-item.result c.in_ok-cursor.cursor (reverse c.loop-endpoint.desk.broker.entries) (reverse c.open_one.new.desk.broker.entries) =
     subst (λ w. IsOpened w c.endpoint-item.result c.in_ok-cursor.cursor (reverse c.loop-endpoint.desk.broker.entries) (reverse c.open_one.new.desk.broker.entries)) c.loop-endpoint.invariant.same_world c.in_ok-cursor.ensures.opened in
@@ -42,4 +42,4 @@ loop-endpoint-preserved c =
 pub returns-clause-opened : goal.returns-clause-opened
 returns-clause-opened c =
     let e : c.loop-endpoint.endpoint-index ≡ length c.endpoints-endpoint-items.result.now = omega (arith, c.loop-endpoint-test.false, c.loop-endpoint.auto.endpoint-index-end) in
-    subst (λ n. OpenedSoFar c.args.desk.now.broker.world c.args.scene.now.endpoints n c.loop-endpoint.cursors.items (reverse c.loop-endpoint.desk.broker.entries)) (e ∙ ap length c.endpoints-endpoint-items.ensures) c.loop-endpoint.invariant.so_far
+    subst (λ n. OpenedSoFar c.args.desk.now.broker.world c.args.scene.now.endpoints n c.loop-endpoint.cursors.items (reverse c.loop-endpoint.desk.broker.entries)) (e ∙ ap length c.endpoints-endpoint-items.ensures.value) c.loop-endpoint.invariant.so_far
