@@ -382,12 +382,7 @@ fn no_scenes(rt: HostRuntime) -> Result<(), Fail> {
     let alloc = rt.alloc();
     // A scene's text; the first faulty line, what is wrong with it, and the line that tells it.
     let cases = [
-        (
-            "",
-            1,
-            SceneKind::Head,
-            "wx: scene refused: line 1: head\n",
-        ),
+        ("", 1, SceneKind::Head, "wx: scene refused: line 1: head\n"),
         (
             "wx scene 1 mdn\n",
             1,
