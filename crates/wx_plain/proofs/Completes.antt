@@ -1,12 +1,12 @@
 -- Where nothing is wrong, a told verdict is the output's, or want of memory.
-use Rattle.std.proofs.Common.{◌≡◌, ◌∙◌, ℕ, List, Result, Ok, Err, Option, Some, None, refl, sym, ap, subst, inl, inr}
+use Rattle.std.proofs.Common.{◌≡◌, ◌∙◌, ℕ, List, Result, Ok, Err, Option, Some, None, sym, ap, subst, inl, inr}
 use Rattle.std.specs.Prelude.{◌⊎◌}
 use Rattle.wx_outside.specs.Shelf.{Files}
 use Rattle.wx_status.specs.declared.status.Status.{Status}
 use Rattle.wx_status.specs.declared.status.Status.TheVariants as status
 use Rattle.wx_status.specs.declared.status.InputKind.{InputKind}
 use Rattle.wx_status.specs.Changes.{ShelfChange, SinkChange}
-use Rattle.wx_words.specs.Words.{PlainCommand, plain_command_of}
+use Rattle.wx_words.specs.Words.{PlainCommand}
 use Rattle.wx_plain.specs.Output.{Output, answer_status}
 use Rattle.wx_plain.specs.Answers.{Answers}
 use Rattle.wx_plain.specs.Verdict.{Verdict, usage, read_fault, refused, no_memory, answered}

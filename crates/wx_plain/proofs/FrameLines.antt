@@ -1,9 +1,8 @@
 -- The lines of frames, written one behind the other.
-use Rattle.std.proofs.Common.{◌≡◌, ◌≢◌, ◌∙◌, ◌<◌, ◌≤◌, ◌+◌, ◌^◌, ℕ, suc, zero, List, [], ◌∷◌, ◌++◌, length, take, drop, refl, sym, ap, subst, arith, append-nil, append_assoc, length-append, length-drop, lit<}
+use Rattle.std.proofs.Common.{◌≡◌, ◌∙◌, ◌<◌, ◌≤◌, ◌+◌, ◌^◌, ℕ, suc, zero, List, [], ◌∷◌, ◌++◌, length, take, drop, refl, sym, ap, subst, arith, append-nil, append_assoc, length-append, length-drop, lit<}
 use Rattle.std.proofs.lemmas.List.{take-append-drop}
 use Rattle.std.proofs.Math.Seq.{take-add}
 use Rattle.wx_native_frame.proofs.FrameLaws.{frame-length}
-use Rattle.wx_json.specs.declared.JsonFault.{JsonFault}
 use Rattle.wx_native_frame.specs.declared.FrameFault.{FrameFault}
 use Rattle.wx_native_frame.specs.declared.FrameFault.TheVariants as fault
 use Rattle.wx_native_frame.specs.Frames.{IsFrame, IsTrouble, IsUnderWay}

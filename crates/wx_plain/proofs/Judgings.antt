@@ -8,7 +8,7 @@ use Rattle.wx_plain.specs.declared.verdict.Refusal.{Refusal}
 use Rattle.wx_plain.specs.declared.verdict.Refusal.TheVariants as refusal
 use Rattle.wx_plain.specs.Output.{Output}
 use Rattle.wx_plain.specs.Answers.{FramesAnswers}
-use Rattle.wx_plain.specs.View.{Says, output_view, verdict_in}
+use Rattle.wx_plain.specs.View.{Says, verdict_in}
 use Rattle.wx_plain.specs.Verdict.{Verdict, usage, read_fault, refused, no_memory, answered}
 use Rattle.wx_plain.specs.Judging.{ComesTo, FileJudged}
 

@@ -1,6 +1,5 @@
 -- A command has at most one answer.
-use Rattle.std.proofs.Common.{◌≡◌, ◌∙◌, ◌<◌, ◌≤◌, ◌^◌, ℕ, List, [], ◌∷◌, ◌++◌, length, Result, Ok, Err, Option, Some, refl, sym, ap, ap₂, subst, arith, inl, inr, lit<}
-use Rattle.std.specs.Prelude.{◌⊎◌}
+use Rattle.std.proofs.Common.{◌≡◌, ◌∙◌, ◌<◌, ◌^◌, ℕ, List, [], ◌++◌, length, Result, Ok, Err, Option, Some, refl, sym, ap, ap₂, subst, arith, inl, inr, lit<}
 use Rattle.url.specs.Parts.{Parts}
 use Rattle.wx_match_pattern.specs.Pattern.{PatternParts}
 use Rattle.wx_native_frame.specs.declared.FrameFault.{FrameFault}

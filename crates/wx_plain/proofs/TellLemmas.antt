@@ -1,5 +1,5 @@
 -- How a refused input and a failed read are told.
-use Rattle.std.proofs.Common.{◌≡◌, ◌∙◌, ℕ, List, inl, refl, subst, sym}
+use Rattle.std.proofs.Common.{◌≡◌, ℕ, List, inl, refl, subst, sym}
 use Rattle.std.specs.Prelude.{◌⊎◌}
 use Rattle.wx_status.specs.declared.status.Status.{Status}
 use Rattle.wx_status.specs.declared.status.Status.TheVariants as status

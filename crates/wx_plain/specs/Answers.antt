@@ -1,5 +1,5 @@
 -- What the commands answer: an output, or why their input is refused.
-use Rattle.std.specs.Prelude.{◌≡◌, List, ℕ, Option, Result, Ok, Err}
+use Rattle.std.specs.Prelude.{◌≡◌, Option, Result, Ok, Err}
 use Rattle.wx_outside.specs.Shelf.{Files, Content, present, absent, too_large, Tells}
 use Rattle.wx_status.specs.declared.status.InputKind.{InputKind}
 use Rattle.wx_status.specs.declared.status.InputKind.TheVariants as input

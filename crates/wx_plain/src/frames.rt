@@ -17,7 +17,7 @@ use wx_native_frame::{Cut, FrameFault, FrameReader, Step, one_split};
 const FRAME_LIMIT: u32 = 1_048_576;
 
 /// How the frames of a file end.
-#[derive(Clone, Copy, Debug, PartialEq, Eq)]
+#[derive(Clone, Copy)]
 pub enum FramesEnd {
     /// Behind a whole frame.
     Whole,

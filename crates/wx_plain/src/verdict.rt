@@ -1,14 +1,14 @@
 use wx_status::InputKind;
 
 /// What a command prints, and whether that is yes.
-#[derive(Debug, Drop)]
+#[derive(Drop)]
 pub struct Output {
     pub yes: bool,
     pub text: Vec<u8>,
 }
 
 /// Why a command has no output.
-#[derive(Clone, Copy, Debug, PartialEq, Eq)]
+#[derive(Clone, Copy)]
 pub enum Refusal {
     /// Its input is refused.
     Input(InputKind),

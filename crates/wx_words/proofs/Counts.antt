@@ -1,5 +1,5 @@
 -- What the simple commands read of the words behind a command's name, and which they refuse.
-use Rattle.std.proofs.Common.{◌≡◌, ◌∙◌, ◌&&◌, ◌||◌, ℕ, Bool, true, false, List, [], ◌∷◌, map, drop, Option, Some, None, refl, sym, subst, ap, ap₂, codes, inl, inr, rules}
+use Rattle.std.proofs.Common.{◌≡◌, ◌∙◌, true, List, [], ◌∷◌, drop, Option, Some, None, refl, sym, subst, ap, ap₂, codes, inl, inr}
 use Rattle.std.specs.Prelude.{◌⊎◌, ◌≢◌}
 use Rattle.std.specs.Option.{option_map}
 use Rattle.std.specs.List.{list_all}
@@ -16,8 +16,8 @@ use Rattle.clap.specs.declared.error.Error.{Error}
 use Rattle.clap.specs.declared.error.kind.ErrorKind.{ErrorKind}
 use Rattle.clap.specs.declared.error.kind.ErrorKind.TheVariants as kind
 use Rattle.clap.specs.declared.parser.matches.ValueSource.TheVariants.{CommandLine}
-use Rattle.wx_words.specs.Words.{is_operand, is_rounds, operand, scene_in, match_in, frames_in, matching, framing, both, pattern_id, url_id, file_id, PlainCommand}
-use Rattle.wx_words.specs.Readers.{wanted, match_reader, frames_reader, run_reader}
+use Rattle.wx_words.specs.Words.{is_operand, match_in, frames_in, framing}
+use Rattle.wx_words.specs.Readers.{wanted, both, pattern_id, url_id, file_id, match_reader, frames_reader}
 use Rattle.wx_words.proofs.Walks.{IsPlain, operand_plain, between, operand_faults, operand_walked, faults_at, found_at, behind_walk}
 
 -- some fault

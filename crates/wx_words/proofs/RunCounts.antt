@@ -1,13 +1,12 @@
 -- What the simple command of a run reads of the words behind `run`, and which it refuses.
-use Rattle.std.proofs.Common.{◌≡◌, ◌∙◌, ◌&&◌, ◌||◌, ℕ, Bool, true, false, List, [], ◌∷◌, Option, Some, None, refl, sym, subst, ap, ap₂, codes, inl, inr}
+use Rattle.std.proofs.Common.{◌≡◌, ◌∙◌, ◌||◌, ℕ, Bool, true, false, List, [], ◌∷◌, Some, None, refl, sym, subst, ap, ap₂, codes, inl, inr}
 use Rattle.std.specs.Prelude.{◌⊎◌, ◌≢◌, drop}
 use Rattle.std.specs.List.{list_all}
-use Rattle.std.specs.Str.{bytes_eq}
 use Rattle.std.proofs.lemmas.Bool.{and_parts, or_cases}
 use Rattle.std.proofs.lemmas.Slice.Eq.{bytes_eq-Decides}
-use Rattle.clap.specs.Walk.{Held, Row, Rule, Text, Walk, finished, first_of, nothing_held, reading_by, rows_of, settled, used, walk, walked}
+use Rattle.clap.specs.Walk.{Held, Row, Rule, Text, Walk, finished, first_of, nothing_held, rows_of, settled, used, walk, walked}
 use Rattle.clap.specs.Simple.{Shape, built, filled, matches_of}
-use Rattle.clap.specs.Kinds.{HasKind, Kinds, or_else}
+use Rattle.clap.specs.Kinds.{HasKind, or_else}
 use Rattle.clap.specs.Faults.{defaults_fault, fault_of, react_fault, walk_fault}
 use Rattle.clap.specs.Matches.{first_value}
 use Rattle.clap.specs.Values.{kind_of}
@@ -16,9 +15,8 @@ use Rattle.clap.specs.declared.parser.matches.Found.{Found}
 use Rattle.clap.proofs.WalkLemmas.{first_value-rows}
 use Rattle.clap.specs.declared.error.kind.ErrorKind.{ErrorKind}
 use Rattle.clap.specs.declared.error.kind.ErrorKind.TheVariants as kind
-use Rattle.clap.specs.declared.parser.matches.ValueSource.TheVariants.{CommandLine}
 use Rattle.wx_words.specs.Words.{is_operand, is_rounds, scene_in}
-use Rattle.wx_words.specs.Readers.{rounds_flag, wanted, run_reader}
+use Rattle.wx_words.specs.Readers.{rounds_flag, run_reader}
 use Rattle.wx_words.proofs.Walks.{IsPlain, operand_plain, operand_no_flag, between, operand_faults, operand_walked, faults_at, found_at, behind_walk}
 use Rattle.wx_words.proofs.Counts.{IsFaulty, IsRight, refused_behind, read_right, refused_right}
 

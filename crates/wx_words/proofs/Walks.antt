@@ -1,5 +1,5 @@
 -- What a simple command of clap makes of words that are operands.
-use Rattle.std.proofs.Common.{◌≡◌, ◌∙◌, ap₂, arith, nat_eq, ◌&&◌, ◌||◌, ◌==◌, ℕ, Bool, true, false, not, cond, List, [], ◌∷◌, map, Option, Some, None, refl, sym, ap, codes, true≢false, IsTrue}
+use Rattle.std.proofs.Common.{◌≡◌, ap₂, arith, ◌==◌, ℕ, Bool, true, false, List, [], ◌∷◌, Option, None, refl, sym, ap, true≢false}
 use Rattle.std.proofs.lemmas.Bool.{eqb-true}
 use Rattle.std.specs.Str.{bytes_eq}
 use Rattle.clap.specs.Lexer.{long_of, short_of}

@@ -1,6 +1,7 @@
 -- The simple commands of `clap` by which the words behind a command's name are counted and read.
-use Rattle.std.specs.Prelude.{ℕ, List, true, Some, codes}
+use Rattle.std.specs.Prelude.{ℕ, List, Option, Some, None, true, codes}
 use Rattle.clap.specs.Words.{App, Rule, new_app, new_rule, with_rule}
+use Rattle.wx_words.specs.Words.{PlainCommand, matching}
 use Rattle.clap.specs.declared.builder.action.ArgAction.TheVariants.{SetTrue}
 
 -- an operand that has to be there
@@ -26,3 +27,18 @@ frames_reader = with_rule (bare (codes "frames")) (wanted (codes "file"))
 -- `run SCENE` with or without `--rounds`
 abbrev pub run_reader : App
 run_reader = with_rule (with_rule (bare (codes "run")) rounds_flag) (wanted (codes "scene"))
+
+-- the names under which the words of `match` and of `frames` are read
+abbrev pub pattern_id : List ℕ
+pattern_id = codes "pattern"
+
+abbrev pub url_id : List ℕ
+url_id = codes "url"
+
+abbrev pub file_id : List ℕ
+file_id = codes "file"
+
+-- both words of `match`, where both were read
+abbrev pub both : Option (List ℕ) → Option (List ℕ) → Option PlainCommand
+both (Some pattern) (Some url) = Some (matching pattern url)
+both pattern url = None

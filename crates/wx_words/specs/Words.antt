@@ -52,18 +52,3 @@ abbrev pub plain_command_of : List (List ℕ) → Option PlainCommand
 plain_command_of words =
     if is_named (codes "match") words then match_in (drop 1 words)
     else (if is_named (codes "frames") words then frames_in (drop 1 words) else None)
-
--- both words of `match`, where both were read
-abbrev pub both : Option (List ℕ) → Option (List ℕ) → Option PlainCommand
-both (Some pattern) (Some url) = Some (matching pattern url)
-both pattern url = None
-
--- the names under which the words of `match` and `frames` are read
-abbrev pub pattern_id : List ℕ
-pattern_id = codes "pattern"
-
-abbrev pub url_id : List ℕ
-url_id = codes "url"
-
-abbrev pub file_id : List ℕ
-file_id = codes "file"

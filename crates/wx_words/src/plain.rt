@@ -2,6 +2,7 @@ ghost use Rattle.std.specs.Prelude.{◌≡◌, IfOk, map, drop, string_bytes, tr
 ghost use Rattle.std.specs.List.{list_all};
 ghost use Rattle.std.specs.Option.{option_map};
 ghost use Rattle.clap.specs.Words.{first_value, found_of};
+ghost use Rattle.wx_words.specs.Readers as readers;
 ghost use Rattle.wx_words.specs.Words as forms;
 ghost use Rattle.wx_words.specs.View.{command_view};
 
@@ -22,7 +23,7 @@ pub enum PlainCommand<'a> {
 
 /// The command that the values of `match` make, where both are there.
 fn of_match<'a>(found: &ArgMatches<'a>) -> Option<PlainCommand<'a>>
-    ensures { option_map command_view result ≡ forms.both (first_value (found_of found.now) forms.pattern_id) (first_value (found_of found.now) forms.url_id) }
+    ensures { option_map command_view result ≡ readers.both (first_value (found_of found.now) readers.pattern_id) (first_value (found_of found.now) readers.url_id) }
 {
     match (found.get_str("pattern"), found.get_str("url")) {
         (Some(pattern), Some(url)) => Some(PlainCommand::Match { pattern, url }),
@@ -32,7 +33,7 @@ fn of_match<'a>(found: &ArgMatches<'a>) -> Option<PlainCommand<'a>>
 
 /// The command that the value of `frames` makes, where it is there.
 fn of_frames<'a>(found: &ArgMatches<'a>) -> Option<PlainCommand<'a>>
-    ensures { option_map command_view result ≡ option_map forms.framing (first_value (found_of found.now) forms.file_id) }
+    ensures { option_map command_view result ≡ option_map forms.framing (first_value (found_of found.now) readers.file_id) }
 {
     match found.get_str("file") {
         Some(file) => Some(PlainCommand::Frames { file }),

@@ -1,4 +1,4 @@
-use Rattle.std.proofs.Common.{◌≡◌, ◌∙◌, List, ap, ap₂, subst, sym, refl, map, string_bytes, true}
+use Rattle.std.proofs.Common.{◌≡◌, ◌∙◌, ap, ap₂, subst, map, string_bytes, true}
 use Rattle.clap.specs.Words.{App, FailsBy, app_of, fault_of, is_simple_and_free, with_rule}
 use Rattle.wx_words.specs.Readers as readers
 use Rattle.wx_words.proofs.readers.read_match.Goals as goal
