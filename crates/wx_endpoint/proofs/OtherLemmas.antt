@@ -16,8 +16,9 @@ use Rattle.wx_machine.specs.Contexts.{contexts, same_context, is_enter}
 use Rattle.wx_broker.specs.State.{BrokerState}
 use Rattle.wx_broker.specs.Steps.{Appends, Stays}
 use Rattle.wx_endpoint.specs.History.{seen_by}
-use Rattle.wx_endpoint.specs.Steps.{IsSound, MakesNone}
-use Rattle.wx_endpoint.specs.BrokerDesks.{desk_over}
+use Rattle.wx_endpoint.specs.Steps.{DeskState, IsSound, MakesNone}
+use Rattle.wx_endpoint.specs.Turn.{CursorState, StandsBehind}
+use Rattle.wx_endpoint.specs.BrokerDesks.{desk_over, shared}
 use Rattle.wx_endpoint.proofs.BrokerLemmas.{given_over, made_none, may_call, sound_grown, sound_same}
 
 other_context : (d c : ContextNo) → d.0 ≢ c.0 → same_context d c ≡ false
@@ -29,7 +30,7 @@ other_context d c apart = by_test (same_context d c) refl
 
 -- what is known of a desk behind another context's step
 pub record Meanwhile (c : ContextNo) (old new : BrokerState) : Type 0 where
-  pub others : MakesNone (desk_over c old) (desk_over c new)
+  pub others : MakesNone (shared (desk_over c old)) (shared (desk_over c new))
   pub sound : IsSound (desk_over c new)
 
 one_other : (c d : ContextNo) (old new : BrokerState) (call : Call) (answer : Answer) → d.0 ≢ c.0 → IsSound (desk_over c old) → IsTrue (may_make (reverse old.entries) (ByContext d) call) → Appends old new (ByContext d) call answer
@@ -43,12 +44,32 @@ one_other c d old new call answer apart sound may appends =
         seen = ap (λ es. seen_by c (reverse es)) appends.grown ∙ ap (seen_by c) (reverse-append old.entries (e ∷ []));
         same_context = refl;
         same_world = appends.same_world;
+        none_came = λ is. absurd cc;
+        same_alone = refl;
       };
       sound = sound_grown c d old new call answer sound may appends;
     }
 
+shared_none : (old new : DeskState) → MakesNone old new → MakesNone (shared old) (shared new)
+shared_none old new none = record {
+  others = none.others;
+  none_own = none.none_own;
+  none_came = λ is. absurd cc;
+  seen = none.seen;
+  same_context = none.same_context;
+  same_world = none.same_world;
+  same_alone = refl;
+}
+
+-- where a cursor stands does not ask who else is there
+pub behind_shared : (cursor : CursorState) (desk : DeskState) → StandsBehind cursor desk → StandsBehind cursor (shared desk)
+behind_shared cursor desk behind = record { place = behind.place; made = behind.made; carries = behind.carries }
+
+pub behind_alone : (cursor : CursorState) (desk : DeskState) → StandsBehind cursor (shared desk) → StandsBehind cursor desk
+behind_alone cursor desk behind = record { place = behind.place; made = behind.made; carries = behind.carries }
+
 none_other : (c : ContextNo) (old new : BrokerState) → IsSound (desk_over c old) → Stays old new → Meanwhile c old new
-none_other c old new sound stays = record { others = made_none c old new stays; sound = sound_same c old new sound stays }
+none_other c old new sound stays = record { others = shared_none (desk_over c old) (desk_over c new) (made_none c old new stays); sound = sound_same c old new sound stays }
 
 -- another context comes in
 pub enter_other : {E : Type 0} (c : ContextNo) (old new : BrokerState) (x : Context) (r : Result ContextNo E) → IsSound (desk_over c old)

@@ -45,7 +45,7 @@ pub quiet_sound : (n : ℕ) → IsSound (quiet_desk n)
 quiet_sound n = record { legal = all_follow n; given = rw (one_context n) (omega arith) }
 
 none_made : (n : ℕ) → MakesNone (quiet_desk n) (quiet_desk n)
-none_made n = record { others = []; none_own = tt; seen = refl; same_context = refl; same_world = refl }
+none_made n = record { others = []; none_own = tt; none_came = λ is. refl; seen = refl; same_context = refl; same_world = refl; same_alone = refl }
 
 pub quiet_takes : (n m : ℕ) → m ≡ n + 1 → MakesOne (quiet_desk n) (quiet_desk m) Take Empty
 quiet_takes n m is = let next : m ≡ suc n = omega arith in record { between = quiet_desk n; others = none_made n; made = ap quiet_desk next }

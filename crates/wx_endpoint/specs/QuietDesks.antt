@@ -19,4 +19,5 @@ quiet_desk takes = record {
   context = record { 0 = 0 };
   world = record {};
   history = replicate takes (record { own = true; entry = took_none }) ++ record { own = true; entry = came_in } ∷ [];
+  alone = true;
 }

@@ -3,7 +3,7 @@ ghost use Rattle.wx_machine.specs.Contexts.{contexts, is_enter};
 ghost use Rattle.wx_machine.specs.declared.entries.Call.{Call};
 ghost use Rattle.wx_machine.specs.declared.entries.Who.TheVariants as Who;
 ghost use Rattle.wx_broker.specs.Steps.{Appends, Stays};
-ghost use Rattle.wx_endpoint.specs.BrokerDesks.{desk_over};
+ghost use Rattle.wx_endpoint.specs.BrokerDesks.{desk_over, shared};
 ghost use Rattle.wx_endpoint.specs.QuietDesks.{quiet_desk};
 ghost use Rattle.wx_endpoint.specs.Steps.{IsSound, MakesNone};
 ghost use Rattle.wx_endpoint.specs.Turn.{StandsBehind};
@@ -97,7 +97,7 @@ fn call(broker: &mut Broker, alloc: Global, m: Move) -> Option<Answer>
 /// What context 1 does; whether it was done.
 fn act(desk: &mut BrokerDesk, alloc: Global, m: Move) -> bool
     requires { IsSound (desk_over desk.old.context desk.old.broker) }
-    ensures others { MakesNone (desk_over desk.old.context desk.old.broker) (desk_over desk.new.context desk.new.broker) }
+    ensures others { MakesNone (shared (desk_over desk.old.context desk.old.broker)) (shared (desk_over desk.new.context desk.new.broker)) }
     ensures sound { IsSound (desk_over desk.new.context desk.new.broker) }
 {
     if let Move::Enter = m {
