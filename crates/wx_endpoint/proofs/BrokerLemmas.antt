@@ -1,5 +1,5 @@
 -- What a call of a broker is at the desk over it.
-use Rattle.std.proofs.Common.{◌≡◌, ◌<◌, List, [], ◌∷◌, Bool, true, false, arith, IsTrue, Some, None, Ok, Err, IfOk, OnErr, refl, ap, sym, ◌∙◌}
+use Rattle.std.proofs.Common.{◌≡◌, ◌<◌, List, [], ◌∷◌, Bool, true, false, cond, ◌+◌, arith, IsTrue, Some, None, Ok, Err, IfOk, OnErr, refl, ap, sym, ◌∙◌}
 use Rattle.std.specs.Prelude.{Result, reverse, slice_get, Option, ℕ}
 use Rattle.std.specs.Option.{option_and_then}
 use Rattle.std.proofs.lemmas.List.{reverse-append, reverse-reverse}
@@ -69,23 +69,31 @@ made_none c old new stays = record { others = []; none_own = tt; none_came = λ 
 
 -- ---- the desk stays sound
 
-may_call : (past : List Entry) (c : ContextNo) (call : Call) → is_enter call ≡ false → c.0 < contexts past → IsTrue (may_make past (ByContext c) call)
+pub may_call : (past : List Entry) (c : ContextNo) (call : Call) → is_enter call ≡ false → c.0 < contexts past → IsTrue (may_make past (ByContext c) call)
 may_call past c (Enter x) other given = absurd cc
 may_call past c _ other given = grind (arith, nat_tests)
 
 sound_over : (c : ContextNo) (broker : BrokerState) → EachAfter (FollowsMachine broker.world) (reverse broker.entries) → c.0 < contexts (reverse broker.entries) → IsSound (desk_over c broker)
 sound_over c broker legal given = record { legal = rw past_over legal; given = rw past_over given }
 
-sound_more : (c : ContextNo) (old new : BrokerState) (call : Call) (answer : Answer) → is_enter call ≡ false → IsSound (desk_over c old) → Appends old new (ByContext c) call answer → IsSound (desk_over c new)
-sound_more c old new call answer other sound appends =
-    let e : Entry = record { who = ByContext c; call = call; answer = answer } in
-    let given = given_over c old sound in
+-- one more entry, made by one who may make it
+pub sound_grown : (c d : ContextNo) (old new : BrokerState) (call : Call) (answer : Answer) → IsSound (desk_over c old) → IsTrue (may_make (reverse old.entries) (ByContext d) call) → Appends old new (ByContext d) call answer
+    → IsSound (desk_over c new)
+sound_grown c d old new call answer sound may appends =
+    let e : Entry = record { who = ByContext d; call = call; answer = answer } in
     let legal : EachAfter (FollowsMachine old.world) (reverse old.entries) = rw past_over at sound.legal in
     let past : reverse new.entries ≡ e ∷ reverse old.entries = ap reverse appends.grown ∙ reverse-append old.entries (e ∷ []) in
-    let follows : FollowsMachine old.world (reverse old.entries) e = record { may = may_call (reverse old.entries) c call other given; answered = appends.answered } in
-    sound_over c new (rw (past, appends.same_world) (legal, follows)) (rw (past, other) (omega (arith, given)))
+    let follows : FollowsMachine old.world (reverse old.entries) e = record { may = may; answered = appends.answered } in
+    sound_over c new (rw (past, appends.same_world) (legal, follows)) (rw past (more_contexts (is_enter call) (given_over c old sound)))
+  where
+    more_contexts : (came : Bool) → c.0 < contexts (reverse old.entries) → c.0 < cond came 1 0 + contexts (reverse old.entries)
+    more_contexts true given = omega arith
+    more_contexts false given = omega arith
 
-sound_same : (c : ContextNo) (old new : BrokerState) → IsSound (desk_over c old) → Stays old new → IsSound (desk_over c new)
+sound_more : (c : ContextNo) (old new : BrokerState) (call : Call) (answer : Answer) → is_enter call ≡ false → IsSound (desk_over c old) → Appends old new (ByContext c) call answer → IsSound (desk_over c new)
+sound_more c old new call answer other sound appends = sound_grown c c old new call answer sound (may_call (reverse old.entries) c call other (given_over c old sound)) appends
+
+pub sound_same : (c : ContextNo) (old new : BrokerState) → IsSound (desk_over c old) → Stays old new → IsSound (desk_over c new)
 sound_same c old new sound stays =
     let legal : EachAfter (FollowsMachine old.world) (reverse old.entries) = rw past_over at sound.legal in
     sound_over c new (rw (stays.same_entries, stays.same_world) legal) (rw stays.same_entries (given_over c old sound))

@@ -8,6 +8,10 @@ mod desk;
 mod passing;
 mod performing;
 mod position;
+#[cfg(test)]
+mod quiet_desk;
+#[cfg(test)]
+mod tests;
 mod turns;
 
 pub use broker_desk::BrokerDesk;

@@ -1,0 +1,52 @@
+use crate::desk::Desk;
+use wx_id::{ChannelNo, EntryNo, NoMemory, Utf8Text};
+use wx_machine::{Answer, JsonText, Listens, Target};
+
+/// A desk of tests, for one page that does nothing but take. Nothing is ever pending there; any other call is
+/// refused memory. It answers at once, since it keeps no more than the count of takes.
+#[derive(Drop)]
+pub(crate) struct QuietDesk {
+    pub(crate) takes: u64,
+}
+
+impl Desk for QuietDesk {
+    ghost use Rattle.wx_endpoint.specs.QuietDesks.{quiet_desk};
+
+    ghost state = { λ desk. quiet_desk desk.takes };
+
+    fn listen(&mut self, _l: Listens) -> Result<Answer, NoMemory> {
+        Err(NoMemory)
+    }
+
+    fn leave(&mut self) -> Result<Answer, NoMemory> {
+        Err(NoMemory)
+    }
+
+    fn connect(&mut self, _target: Target, name: Utf8Text) -> Result<Answer, Utf8Text> {
+        Err(name)
+    }
+
+    fn post(&mut self, _k: ChannelNo, text: JsonText) -> Result<Answer, JsonText> {
+        Err(text)
+    }
+
+    fn disconnect(&mut self, _k: ChannelNo) -> Result<Answer, NoMemory> {
+        Err(NoMemory)
+    }
+
+    fn take(&mut self) -> Result<Answer, NoMemory> {
+        if self.takes == u64::MAX {
+            return Err(NoMemory);
+        }
+        self.takes += 1;
+        Ok(Answer::Empty)
+    }
+
+    fn take_ready(&mut self) -> Result<Option<Answer>, NoMemory> {
+        Ok(None)
+    }
+
+    fn copy_of(&mut self, _e: EntryNo) -> Result<Option<JsonText>, NoMemory> {
+        Err(NoMemory)
+    }
+}
