@@ -15,5 +15,7 @@ mod script;
 mod tests;
 mod word;
 
-pub use scene::{Scene, SceneEndpoint, SceneExtension, SceneFault, SceneKind, SceneReadFault, SpentWho};
+pub use scene::{
+    Scene, SceneEndpoint, SceneExtension, SceneFault, SceneKind, SceneReadFault, SpentWho,
+};
 pub use script::{Act, Command, Script, Var};
