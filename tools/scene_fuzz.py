@@ -3,10 +3,12 @@
 
     tools/scene_fuzz.py [COUNT]
 
-COUNT runs (1,000 where none is given), half of them on random bytes and half on the first scene with a few
-bytes changed. Each must end with status 0 or 4, and with 4 write nothing on standard output and one line on
-standard error. The seed is fixed, so that a failure can be repeated. Ends with status 1 where a run did not.
+COUNT runs (1,000 where none is given), half of them on random bytes and half on one of the scenes with a few
+bytes changed. Each must end with status 0, 1 or 4: with 4 it writes nothing on standard output and one line on
+standard error, with 1 the journal and a line for each page that waits. The seed is fixed, so that a failure can be
+repeated. Ends with status 1 where a run did not.
 """
+import glob
 import os
 import random
 import subprocess
@@ -56,18 +58,23 @@ def is_well_ended(scene):
     run = subprocess.run([PROGRAM, "run", "--rounds", "-"], input=scene, capture_output=True, timeout=20)
     if run.returncode == 0:
         return run.returncode, run.stdout.startswith(b"wx journal 1 chrome\n") and run.stderr == b""
+    if run.returncode == 1:
+        waiting = [line.startswith(b"wx: stalled: ") for line in run.stderr.splitlines()]
+        return run.returncode, run.stdout.startswith(b"wx journal 1 chrome\n") and all(waiting) and len(waiting) > 0
     refused = run.stderr.startswith(b"wx: scene refused: line ") and run.stderr.count(b"\n") == 1
     return run.returncode, run.returncode == 4 and run.stdout == b"" and refused
 
 
 def main():
     count = int(sys.argv[1]) if len(sys.argv) > 1 else 1000
-    with open(os.path.join(TOP, "scenes", "first.scene"), "rb") as f:
-        first = f.read()
+    scenes = []
+    for path in sorted(glob.glob(os.path.join(TOP, "scenes", "*.scene"))):
+        with open(path, "rb") as f:
+            scenes.append(f.read())
     rng = random.Random(1)
     statuses, bad = {}, 0
     for n in range(count):
-        scene = random_scene(rng) if n % 2 == 0 else mutated_scene(rng, first)
+        scene = random_scene(rng) if n % 2 == 0 else mutated_scene(rng, rng.choice(scenes))
         status, well = is_well_ended(scene)
         statuses[status] = statuses.get(status, 0) + 1
         if not well:
