@@ -5,3 +5,6 @@
 mod requests;
 
 pub use requests::{Requests, Standing};
+
+#[cfg(test)]
+mod tests;
