@@ -34,7 +34,7 @@ impl Model for Channel {
 }
 
 /// Whether c is one of these contexts.
-fn is_among(contexts: &[ContextNo], c: ContextNo) -> bool
+pub fn is_among(contexts: &[ContextNo], c: ContextNo) -> bool
     ensures { result ≡ spec.is_among contexts.now c }
 {
     contexts.iter().any(|d| d.0 == c.0)

@@ -1,4 +1,8 @@
+ghost use Rattle.std.specs.Prelude.{◌≡◌, slice_get};
+ghost use Rattle.wx_port.specs.Port as spec;
+
 use crate::Ports;
+use crate::channel::is_among;
 use std::process::Abort;
 use std::test::Fail;
 use wx_id::{ChannelNo, ContextNo, End};
@@ -15,9 +19,11 @@ enum Row<'a> {
     NextOf(u64, u64, Option<u64>),
 }
 
-/// Whether c is the opener of the open channel k, or a live receiver, by what callers can ask.
-fn is_live_end(ports: &Ports, k: ChannelNo, c: ContextNo) -> bool {
-    ports.is_open(k) && (ports.opener(k).0 == c.0 || ports.live(k).iter().any(|d| d.0 == c.0))
+/// Whether c is a live end of channel k, by what a caller can ask.
+fn is_live_end(ports: &Ports, k: ChannelNo, c: ContextNo) -> bool
+    ensures { result ≡ spec.is_live_end (slice_get ports.now k.0) c }
+{
+    ports.is_open(k) && (ports.opener(k).0 == c.0 || is_among(ports.live(k), c))
 }
 
 fn are_numbered(contexts: &[ContextNo], numbers: &[u64]) -> bool {
