@@ -1,0 +1,75 @@
+-- Channels as a list by number, as contracts see them.
+use Rattle.std.specs.Prelude.{◌≡◌, List, [], ◌∷◌, Bool, true, false, not, ◌&&◌, ◌||◌, ◌==◌, IsTrue, Option, Some, None, filter, if◌then◌else◌}
+use Rattle.std.specs.List.{list_any}
+use Rattle.wx_id.specs.declared.numbers.ContextNo.{ContextNo}
+use Rattle.wx_id.specs.declared.events.End.{End}
+use Rattle.wx_id.specs.declared.events.End.TheVariants.{Opener, Receiver, Neither}
+
+-- two numbers of one context
+abbrev pub same_context : ContextNo → ContextNo → Bool
+same_context c d = c.0 == d.0
+
+-- c is one of these contexts
+abbrev pub is_among : List ContextNo → ContextNo → Bool
+is_among cs c = list_any (λ d. same_context d c) cs
+
+-- d is another context than c
+abbrev pub is_other : ContextNo → ContextNo → Bool
+is_other c d = not (same_context d c)
+
+-- no context stands twice
+abbrev pub are_apart : List ContextNo → Bool
+are_apart [] = true
+are_apart (c ∷ cs) = not (is_among cs c) && are_apart cs
+
+-- a channel: its ends, the receivers that have not dropped it, and whether it is open
+pub record Port : Type 0 where
+  pub opener : ContextNo
+  pub receivers : List ContextNo
+  pub live : List ContextNo
+  pub is_open : Bool
+
+-- what holds of every channel: its ends are distinct, its live receivers are receivers and distinct, and none is live once it is closed
+pub record IsSound (port : Port) : Type 0 where
+  pub opener : is_among port.receivers port.opener ≡ false
+  pub receivers : IsTrue (are_apart port.receivers)
+  pub live : IsTrue (are_apart port.live)
+  pub within : (c : ContextNo) → IsTrue (is_among port.live c) → IsTrue (is_among port.receivers c)
+  pub closed : port.is_open ≡ false → port.live ≡ []
+
+-- a channel as it is opened
+abbrev pub opened : ContextNo → List ContextNo → Port
+opened opener receivers = record { opener = opener; receivers = receivers; live = receivers; is_open = true }
+
+-- the channel closed: its ends stay, and no receiver is live
+abbrev pub closed : Port → Port
+closed port = record { opener = port.opener; receivers = port.receivers; live = []; is_open = false }
+
+-- the channel with these live receivers, closed where there are none
+abbrev pub with_live : Port → List ContextNo → Port
+with_live port [] = closed port
+with_live port (c ∷ cs) = record port { live = c ∷ cs }
+
+-- the channel once its end c has dropped it: the opener's drop closes it, and so does the last receiver's
+abbrev pub without : ContextNo → Port → Port
+without c port = if same_context port.opener c then closed port else with_live port (filter (is_other c) port.live)
+
+-- what c is to a channel, open or closed; nothing to one that was not opened yet
+abbrev pub end_of : Option Port → ContextNo → End
+end_of None c = Neither
+end_of (Some port) c = if same_context port.opener c then Opener else (if is_among port.receivers c then Receiver else Neither)
+
+-- the channel is there and open
+abbrev pub is_open_port : Option Port → Bool
+is_open_port None = false
+is_open_port (Some port) = port.is_open
+
+-- the live receivers of a channel; none of one that was not opened yet
+abbrev pub live_of : Option Port → List ContextNo
+live_of None = []
+live_of (Some port) = port.live
+
+-- c is the opener of an open channel, or one of its live receivers
+abbrev pub is_live_end : Option Port → ContextNo → Bool
+is_live_end None c = false
+is_live_end (Some port) c = port.is_open && (same_context port.opener c || is_among port.live c)
