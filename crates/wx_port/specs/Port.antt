@@ -22,7 +22,7 @@ abbrev pub are_apart : List ContextNo → Bool
 are_apart [] = true
 are_apart (c ∷ cs) = not (is_among cs c) && are_apart cs
 
--- a channel: its ends, the receivers that have not dropped it, and whether it is open
+-- a channel: its ends, its live receivers, and whether it is open
 pub record Port : Type 0 where
   pub opener : ContextNo
   pub receivers : List ContextNo

@@ -63,13 +63,6 @@ impl Channel {
         }
     }
 
-    /// Its receivers, given back by a channel that was not taken in.
-    pub fn into_receivers(self) -> Vec<ContextNo>
-        ensures { result.items ≡ self.receivers }
-    {
-        self.receivers
-    }
-
     /// What c is to it.
     pub fn end(&self, c: ContextNo) -> End
         ensures { result ≡ spec.end_of (Some self.now) c }

@@ -45,16 +45,18 @@ impl Ports {
         ensures number { IfOk result (λ k. k.0 ≡ length self.old) }
         ensures ok { OnOk result (self.new ≡ self.old ++ spec.opened opener receivers.items ∷ []) }
         ensures err { OnErr result (self.new ≡ self.old) }
-        ensures returned { IfErr result (λ back. back.items ≡ receivers.items) }
+        ensures returned { IfErr result (λ back. back ≡ receivers) }
     {
         let Ok(live) = Vec::from_slice(self.alloc, &receivers) else {
             return Err(receivers);
         };
-        let number = self.channels.len() as u64;
-        match self.channels.push(Channel::open(opener, receivers, live)) {
-            Ok(()) => Ok(ChannelNo(number)),
-            Err(refused) => Err(refused.value.into_receivers()),
+        if self.channels.reserve(1).is_err() {
+            return Err(receivers);
         }
+        let number = self.channels.len() as u64;
+        self.channels
+            .push_reserved(Channel::open(opener, receivers, live));
+        Ok(ChannelNo(number))
     }
 
     /// What c is to channel k, open or closed; `Neither` where k has not been given out.
