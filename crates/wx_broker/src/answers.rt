@@ -1,13 +1,15 @@
 //! The machine's answers, found by walking the journal.
-ghost use Rattle.std.specs.Prelude.{◌≡◌, cond, length, reverse};
-ghost use Rattle.wx_machine.specs.Contexts.{is_live, receivers_of};
+ghost use Rattle.std.specs.Prelude.{◌≡◌, cond, length, option_copied, reverse};
+ghost use Rattle.wx_machine.specs.Contexts.{context_of, is_live, receivers_of};
 ghost use Rattle.wx_machine.specs.Channels.{channels, channel, end_in, is_closed};
 ghost use Rattle.wx_machine.specs.Requests.{requests, request, is_asked};
 ghost use Rattle.wx_machine.specs.Events.{pending, first};
-ghost use Rattle.wx_machine.specs.Answers.{at_end, on_request, is_late, told_or_empty, where_heard, where_short};
+ghost use Rattle.wx_machine.specs.Answers.{at_end, gate_for, on_request, is_late, told_or_empty, where_heard, where_open, where_short};
 
+use wx_context::{Context, Target};
+use wx_external::{Verdict, World, gate};
 use wx_id::{ChannelNo, ContextNo, End, RequestNo};
-use wx_machine::{Answer, Entry, JsonText, LONGEST, Sort, Target};
+use wx_machine::{Answer, Entry, JsonText, LONGEST, Sort};
 use wx_walks::{channels, closing, contexts, events, requests};
 
 /// The answer to a call that needs only a live caller.
@@ -21,18 +23,64 @@ pub fn done_if_live(entries: &[Entry], c: ContextNo) -> Answer
     }
 }
 
-/// The answer to a connect.
-pub fn connect(entries: &[Entry], c: ContextNo, target: Target) -> Answer
-    ensures { result ≡ cond (is_live (reverse entries.now) c) (where_heard (receivers_of (reverse entries.now) c target Sort.Connection) (Answer.Channel (record { 0 = length (channels (reverse entries.now)) }))) Answer.Gone }
+/// Whether the caller may reach the target; one that never came in may not.
+fn gate_for(world: &World, caller: Option<&Context>, target: Target) -> Verdict
+    ensures { result ≡ gate_for world.now (option_copied caller.entry) target }
+{
+    match caller {
+        Some(x) => gate(world, x, &target),
+        None => Verdict::BadTarget,
+    }
+}
+
+/// That answer, where the gate is open.
+fn where_open(verdict: Verdict, answer: Answer) -> Answer
+    ensures { result ≡ where_open verdict answer }
+{
+    match verdict {
+        Verdict::Open { .. } => answer,
+        Verdict::BadTarget => Answer::BadTarget,
+        Verdict::Forbidden(rule) => Answer::Forbidden(rule),
+    }
+}
+
+/// That answer, where the target has a receiver.
+fn where_heard(entries: &[Entry], c: ContextNo, target: Target, sort: Sort, answer: Answer) -> Answer
+    ensures { result ≡ where_heard (receivers_of (reverse entries.now) c target sort) answer }
+{
+    if contexts::has_receiver(entries, c, target, sort) {
+        answer
+    } else {
+        Answer::NoReceiver
+    }
+}
+
+/// That answer to a live caller who may reach the target, where it has a receiver.
+fn to_target(
+    world: &World,
+    entries: &[Entry],
+    c: ContextNo,
+    target: Target,
+    sort: Sort,
+    answer: Answer,
+) -> Answer
+    ensures { result ≡ cond (is_live (reverse entries.now) c) (where_open (gate_for world.now (context_of (reverse entries.now) c) target) (where_heard (receivers_of (reverse entries.now) c target sort) answer)) Answer.Gone }
 {
     if !contexts::is_live(entries, c) {
         return Answer::Gone;
     }
-    if contexts::has_receiver(entries, c, target, Sort::Connection) {
-        Answer::Channel(ChannelNo(channels::count(entries)))
-    } else {
-        Answer::NoReceiver
-    }
+    where_open(
+        gate_for(world, contexts::context_of(entries, c), target),
+        where_heard(entries, c, target, sort, answer),
+    )
+}
+
+/// The answer to a connect.
+pub fn connect(world: &World, entries: &[Entry], c: ContextNo, target: Target) -> Answer
+    ensures { result ≡ cond (is_live (reverse entries.now) c) (where_open (gate_for world.now (context_of (reverse entries.now) c) target) (where_heard (receivers_of (reverse entries.now) c target Sort.Connection) (Answer.Channel (record { 0 = length (channels (reverse entries.now)) })))) Answer.Gone }
+{
+    let opened = Answer::Channel(ChannelNo(channels::count(entries)));
+    to_target(world, entries, c, target, Sort::Connection, opened)
 }
 
 /// The answer to a post.
@@ -62,16 +110,17 @@ pub fn disconnect(entries: &[Entry], c: ContextNo, k: ChannelNo) -> Answer
 }
 
 /// The answer to a send.
-pub fn send(entries: &[Entry], c: ContextNo, target: Target, text: &JsonText) -> Answer
-    ensures { result ≡ cond (is_live (reverse entries.now) c) (where_heard (receivers_of (reverse entries.now) c target Sort.Message) (where_short text.now (Answer.Request (record { 0 = length (requests (reverse entries.now)) })))) Answer.Gone }
+pub fn send(
+    world: &World,
+    entries: &[Entry],
+    c: ContextNo,
+    target: Target,
+    text: &JsonText,
+) -> Answer
+    ensures { result ≡ cond (is_live (reverse entries.now) c) (where_open (gate_for world.now (context_of (reverse entries.now) c) target) (where_heard (receivers_of (reverse entries.now) c target Sort.Message) (where_short text.now (Answer.Request (record { 0 = length (requests (reverse entries.now)) }))))) Answer.Gone }
 {
-    if !contexts::is_live(entries, c) {
-        return Answer::Gone;
-    }
-    if !contexts::has_receiver(entries, c, target, Sort::Message) {
-        return Answer::NoReceiver;
-    }
-    where_short(text, Answer::Request(RequestNo(requests::count(entries))))
+    let asked = where_short(text, Answer::Request(RequestNo(requests::count(entries))));
+    to_target(world, entries, c, target, Sort::Message, asked)
 }
 
 /// The answer to a reply.

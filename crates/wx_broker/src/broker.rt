@@ -11,7 +11,9 @@ use std::alloc::Global;
 use std::marker::Model;
 use wx_id::{ChannelNo, ContextNo, NoMemory, RequestNo, Utf8Text};
 use wx_journal::Journal;
-use wx_machine::{Answer, Call, Context, Entry, JsonText, Listens, Target, Who, World};
+use wx_context::{Context, Listens, Target};
+use wx_external::World;
+use wx_machine::{Answer, Call, Entry, JsonText, Who};
 use wx_walks::contexts;
 
 /// The broker. It keeps the journal and no other state. Contracts see the world that it was made with, the
@@ -120,7 +122,7 @@ impl Broker {
         ensures room { 0 < self.old.spare → IsOk result }
         ensures spare { self.old.spare ≤ self.new.spare + 1 }
     {
-        let answer = answers::connect(self.journal.entries(), c, target);
+        let answer = answers::connect(&self.world, self.journal.entries(), c, target);
         let e = Entry {
             who: Who::Context(c),
             call: Call::Connect(target, name),
@@ -184,7 +186,7 @@ impl Broker {
         ensures room { 0 < self.old.spare → IsOk result }
         ensures spare { self.old.spare ≤ self.new.spare + 1 }
     {
-        let answer = answers::send(self.journal.entries(), c, target, &text);
+        let answer = answers::send(&self.world, self.journal.entries(), c, target, &text);
         let e = Entry {
             who: Who::Context(c),
             call: Call::Send(target, text),

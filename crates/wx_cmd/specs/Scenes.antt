@@ -1,7 +1,7 @@
 -- The scene that stands under a name, or why it is refused; and the text that a run of it leaves.
 use Rattle.std.specs.Prelude.{◌≡◌, ℕ, List, Result, Ok, Err, reverse}
 use Rattle.wx_outside.specs.Shelf.{Content, present, absent, too_large}
-use Rattle.wx_machine.specs.declared.world.World.{World}
+use Rattle.wx_external.specs.World.{WorldLists}
 use Rattle.wx_machine.specs.declared.entries.Entry.{Entry}
 use Rattle.wx_journal.specs.Text.{journal_text}
 use Rattle.wx_script.specs.declared.scene.SceneFault.{SceneFault}
@@ -24,7 +24,7 @@ scene_in too_large = Err (refusal Large)
 scene_in (present bytes) = scene_of bytes
 
 -- the world in which no extension has a manifest, and no native host is known
-abbrev pub empty_world : World
+abbrev pub empty_world : WorldLists
 empty_world = record {}
 
 -- A run of the scene leaves a journal and comes to this end; the text is the journal's, and the lines tell of the end.

@@ -14,7 +14,7 @@ use crate::endings::lines_of_end;
 use crate::tell::{Verdict, tell};
 use std::alloc::Global;
 use wx_id::NoMemory;
-use wx_machine::World;
+use wx_external::World;
 use wx_outside::{Found, Shelf, ShelfFault, Sink};
 use wx_plain::wx_plain;
 use wx_run::run_scene;

@@ -8,7 +8,7 @@ mod senders;
 mod urls;
 
 pub use contexts::{Context, Listens, Target};
-pub use paths::{PagePath, PathFault};
+pub use paths::{PagePath, PathFault, are_printable, is_page_path};
 pub use senders::Sender;
 pub use urls::{UrlFault, WebUrl};
 

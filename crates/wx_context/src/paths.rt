@@ -32,13 +32,14 @@ pub enum PathFault {
 }
 
 /// Whether each byte is printable ASCII other than the space.
-fn are_printable(bytes: &[u8]) -> bool
+pub fn are_printable(bytes: &[u8]) -> bool
     ensures { result ≡ paths.is_printable bytes.now }
 {
     bytes.iter().all(|byte| byte.is_ascii_graphic())
 }
 
-fn is_page_path(bytes: &[u8]) -> bool
+/// Whether bytes are the path of a page: `/`, and printable ASCII bytes but the space.
+pub fn is_page_path(bytes: &[u8]) -> bool
     ensures { result ≡ paths.is_page_path bytes.now }
 {
     match bytes.split_first() {

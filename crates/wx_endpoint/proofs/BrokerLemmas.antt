@@ -7,7 +7,7 @@ use Rattle.std.proofs.lemmas.Bool.{eq-eqb}
 use Rattle.std.proofs.lemmas.Bool.Decides.{nat_tests}
 use Rattle.wx_id.specs.declared.numbers.ContextNo.{ContextNo}
 use Rattle.wx_id.specs.declared.numbers.EntryNo.{EntryNo}
-use Rattle.wx_machine.specs.declared.world.World.{World}
+use Rattle.wx_external.specs.World.{WorldLists}
 use Rattle.wx_machine.specs.declared.entries.Who.TheVariants.{Context as ByContext}
 use Rattle.wx_machine.specs.declared.entries.Call.{Call}
 use Rattle.wx_machine.specs.declared.entries.Call.TheVariants.{Enter, Take}
@@ -53,7 +53,7 @@ same_none c broker = record { others = []; none_own = tt; none_came = λ is. ref
 desk_after : (c : ContextNo) (old new : BrokerState) (call : Call) (answer : Answer) → Appends old new (ByContext c) call answer
     → desk_over c new ≡ record (desk_over c old) { history = own_entry (desk_over c old) call answer ∷ seen_by c (reverse old.entries) }
 desk_after c old new call answer appends =
-    let D : World → List Seen → DeskState = λ world history. record { context = c; world = world; history = history; alone = true } in
+    let D : WorldLists → List Seen → DeskState = λ world history. record { context = c; world = world; history = history; alone = true } in
     ap (λ w. D w (seen_by c (reverse new.entries))) appends.same_world ∙ ap (D old.world) (history_after c old new call answer appends)
 
 makes_one : (c : ContextNo) (old new : BrokerState) (call : Call) (answer : Answer) → Appends old new (ByContext c) call answer → MakesOne (desk_over c old) (desk_over c new) call answer

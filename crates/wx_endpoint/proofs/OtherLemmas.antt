@@ -4,7 +4,7 @@ use Rattle.std.specs.Prelude.{Result, Option, MatchOption, reverse}
 use Rattle.std.proofs.lemmas.List.{reverse-append}
 use Rattle.std.proofs.lemmas.Bool.{eq-eqb, eqb-true}
 use Rattle.wx_id.specs.declared.numbers.ContextNo.{ContextNo}
-use Rattle.wx_machine.specs.declared.contexts.Context.{Context}
+use Rattle.wx_context.specs.declared.contexts.Context.{Context}
 use Rattle.wx_machine.specs.declared.entries.Who.TheVariants.{Context as ByContext}
 use Rattle.wx_machine.specs.declared.entries.Call.{Call}
 use Rattle.wx_machine.specs.declared.entries.Call.TheVariants.{Enter}

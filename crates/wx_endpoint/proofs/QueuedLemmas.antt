@@ -9,7 +9,7 @@ use Rattle.wx_id.specs.declared.numbers.RequestNo.{RequestNo}
 use Rattle.wx_id.specs.declared.events.Event.{Event}
 use Rattle.wx_id.specs.declared.events.EventKind.{EventKind}
 use Rattle.wx_id.specs.declared.events.EventKind.TheVariants.{Connected, Message, Disconnected, Asked, Replied, Closed}
-use Rattle.wx_machine.specs.declared.world.World.{World}
+use Rattle.wx_external.specs.World.{WorldLists}
 use Rattle.wx_machine.specs.declared.entries.Who.{Who}
 use Rattle.wx_machine.specs.declared.entries.Who.TheVariants.{Context as ByContext}
 use Rattle.wx_machine.specs.declared.entries.Call.{Call}
@@ -145,7 +145,7 @@ first_carried past [] v is all = absurd cc
 first_carried past (w ∷ events) v is all = let same : w ≡ v = cc in subst (λ (v : Event). IsCarried past v.entry v.kind) same all.0
 
 -- what a take is answered with stands in the past
-pub taken_carried : (world : World) (past : List Entry) (who : Who) (v : Event) → answer_after world past who Take ≡ Told v → IsCarried past v.entry v.kind
+pub taken_carried : (world : WorldLists) (past : List Entry) (who : Who) (v : Event) → answer_after world past who Take ≡ Told v → IsCarried past v.entry v.kind
 taken_carried world past (ByContext c) v is = by_first (is_live past c) (first (pending past c)) refl is
   where
     by_first : (live : Bool) (o : Option Event) → first (pending past c) ≡ o → cond live (told_or_empty o) Gone ≡ Told v → IsCarried past v.entry v.kind

@@ -1,6 +1,6 @@
 -- The desk of tests is sound, whatever its count of takes.
 use Rattle.std.proofs.Common.{◌≡◌, ℕ, zero, suc, ◌+◌, arith, List, [], false, Some, refl, ap}
-use Rattle.wx_machine.specs.declared.contexts.Context.TheVariants.{Page}
+use Rattle.wx_context.specs.declared.contexts.Context.TheVariants.{Page}
 use Rattle.wx_machine.specs.declared.entries.Call.TheVariants.{Take}
 use Rattle.wx_machine.specs.declared.entries.Answer.TheVariants.{Empty}
 use Rattle.wx_machine.specs.declared.entries.Entry.{Entry}

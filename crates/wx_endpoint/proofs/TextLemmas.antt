@@ -6,7 +6,7 @@ use Rattle.wx_id.specs.declared.numbers.EntryNo.{EntryNo}
 use Rattle.wx_id.specs.declared.events.Event.{Event}
 use Rattle.wx_id.specs.declared.events.EventKind.{EventKind}
 use Rattle.wx_id.specs.declared.events.EventKind.TheVariants.{Message}
-use Rattle.wx_machine.specs.declared.world.World.{World}
+use Rattle.wx_external.specs.World.{WorldLists}
 use Rattle.wx_machine.specs.declared.entries.Call.TheVariants.{Take}
 use Rattle.wx_machine.specs.declared.entries.Answer.{Answer}
 use Rattle.wx_machine.specs.declared.entries.Answer.TheVariants.{Event as Told}
@@ -40,7 +40,7 @@ heard_whole : (past : List Entry) (n : ℕ) (i : EntryNo) (kind : EventKind) (ac
 heard_whole past n i (Message k) acts variables carried = carried
 heard_whole past n i _ acts variables carried = tt
 
-taken_whole : (world : World) (past : List Entry) (e : Entry) (n : ℕ) (acts : List Act) (variables : Variables) (a : Answer) → e.answer ≡ a → FollowsMachine world past e → e.call ≡ Take
+taken_whole : (world : WorldLists) (past : List Entry) (e : Entry) (n : ℕ) (acts : List Act) (variables : Variables) (a : Answer) → e.answer ≡ a → FollowsMachine world past e → e.call ≡ Take
     → HasNoGap (e ∷ past) (within (behind_event n (event_in a)) acts variables)
 taken_whole world past e n acts variables (Told v) is follows takes =
     let told : answer_after world past e.who Take ≡ Told v = ap (answer_after world past e.who) (sym takes) ∙ sym follows.answered ∙ is in
@@ -52,7 +52,7 @@ await_whole past variables a acts None = tt
 await_whole past variables a acts (Some v) =
     elim (is_wanted variables a v.kind) as (λ b. HasNoGap past (cond b (within unbegun acts (set_by variables a v.kind)) (within unbegun (a ∷ acts) variables))) [ true ↦ tt | false ↦ tt ]
 
-first_whole : (world : World) (past : List Entry) (c : ContextNo) (e : Entry) (variables : Variables) (acts : List Act) → FollowsMachine world past e → MayCome past c (asks_first variables acts) e
+first_whole : (world : WorldLists) (past : List Entry) (c : ContextNo) (e : Entry) (variables : Variables) (acts : List Act) → FollowsMachine world past e → MayCome past c (asks_first variables acts) e
     → HasNoGap (e ∷ past) (behind_first variables e.answer acts)
 first_whole world past c e variables [] follows asked = tt
 first_whole world past c e variables (act.Listen l ∷ acts) follows asked = tt
@@ -70,7 +70,7 @@ answered_whole past n [] variables = tt
 answered_whole past n (a ∷ acts) variables =
     elim (nat_le n 1) as (λ b. HasNoGap past (cond b (within unbegun acts variables) (within (echoing (n - 1)) (a ∷ acts) variables))) [ true ↦ tt | false ↦ tt ]
 
-behind_whole : (world : World) (script : List Command) (past : List Entry) (c : ContextNo) (place : Place) (e : Entry) → FollowsMachine world past e → MayCome past c (next_at past place) e
+behind_whole : (world : WorldLists) (script : List Command) (past : List Entry) (c : ContextNo) (place : Place) (e : Entry) → FollowsMachine world past e → MayCome past c (next_at past place) e
     → HasNoGap (e ∷ past) (place_behind script place e.answer)
 behind_whole world script past c outside e follows asked = tt
 behind_whole world script past c (within unbegun acts variables) e follows asked = first_whole world past c e variables (unskipped variables acts) follows asked
@@ -78,7 +78,7 @@ behind_whole world script past c (within (echoing n) acts variables) e follows a
 behind_whole world script past c (within (answering n k i) acts variables) e follows asked = answered_whole (e ∷ past) n acts variables
 behind_whole world script past c left e follows asked = tt
 
-place_whole : (world : World) (script : List Command) (c : ContextNo) (history : List Seen) → EachAfter (FollowsMachine world) (entries_in history) → CarriesOn script c history
+place_whole : (world : WorldLists) (script : List Command) (c : ContextNo) (history : List Seen) → EachAfter (FollowsMachine world) (entries_in history) → CarriesOn script c history
     → HasNoGap (entries_in history) (place_in script history)
 place_whole world script c [] legal carries = tt
 place_whole world script c (s ∷ history) legal carries = by_own s.own refl (place_whole world script c history legal.0 carries.0)

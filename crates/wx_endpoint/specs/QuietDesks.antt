@@ -1,6 +1,6 @@
 -- A desk of tests: its one page came in and took so many times, and nothing was ever pending.
 use Rattle.std.specs.Prelude.{ℕ, [], ◌∷◌, ◌++◌, replicate, true}
-use Rattle.wx_machine.specs.declared.contexts.Context.TheVariants.{Page}
+use Rattle.wx_context.specs.declared.contexts.Context.TheVariants.{Page}
 use Rattle.wx_machine.specs.declared.entries.Who.TheVariants.{Context as ByContext}
 use Rattle.wx_machine.specs.declared.entries.Call.TheVariants.{Enter, Take}
 use Rattle.wx_machine.specs.declared.entries.Answer.TheVariants.{Entered, Empty}

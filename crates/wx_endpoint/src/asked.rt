@@ -7,7 +7,8 @@ ghost use Rattle.wx_endpoint.specs.Asked.{begun_by, IsFirst};
 
 use crate::position::{Rest, act_of, all_of, behind_first};
 use wx_id::{ChannelNo, EntryNo, Utf8Text};
-use wx_machine::{JsonText, Listens, Target};
+use wx_context::{Listens, Target};
+use wx_machine::JsonText;
 use wx_script::{Act, Var};
 
 /// The call that an act asks for; its texts stand in the script.

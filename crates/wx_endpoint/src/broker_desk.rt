@@ -1,7 +1,8 @@
 use crate::desk::Desk;
 use wx_broker::Broker;
 use wx_id::{ChannelNo, ContextNo, EntryNo, NoMemory, Utf8Text};
-use wx_machine::{Answer, JsonText, Listens, Target};
+use wx_context::{Listens, Target};
+use wx_machine::{Answer, JsonText};
 
 /// The desk of the endpoint that is context `context`, over a broker that nobody else has: its own entries are those
 /// of that context.

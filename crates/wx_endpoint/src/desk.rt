@@ -1,5 +1,6 @@
 use wx_id::{ChannelNo, EntryNo, NoMemory, Utf8Text};
-use wx_machine::{Answer, JsonText, Listens, Target};
+use wx_context::{Listens, Target};
+use wx_machine::{Answer, JsonText};
 
 /// Where an endpoint makes its own calls. A desk tells its endpoint's context, a legal journal, and which of the
 /// entries are the endpoint's own; entries of others may come in at every step. Where memory is refused the endpoint

@@ -9,7 +9,8 @@ ghost use Rattle.wx_endpoint.specs.Performed.{MakesNext, WaitsNext, HasText};
 use crate::asked::{AskedCall, Begins, Step};
 use crate::desk::Desk;
 use wx_id::{ChannelNo, EntryNo, NoMemory, Utf8Text};
-use wx_machine::{Answer, JsonText, Target};
+use wx_context::Target;
+use wx_machine::{Answer, JsonText};
 
 /// One `connect` with a copy of the name.
 fn connect<D: Desk>(desk: &mut D, target: Target, name: &Utf8Text) -> Result<Answer, NoMemory>

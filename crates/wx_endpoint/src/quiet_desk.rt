@@ -1,6 +1,7 @@
 use crate::desk::Desk;
 use wx_id::{ChannelNo, EntryNo, NoMemory, Utf8Text};
-use wx_machine::{Answer, JsonText, Listens, Target};
+use wx_context::{Listens, Target};
+use wx_machine::{Answer, JsonText};
 
 /// A desk of tests, for one page that does nothing but take. Nothing is ever pending there; any other call is
 /// refused memory. It answers at once, since it keeps no more than the count of takes.

@@ -15,7 +15,9 @@ use std::process::Abort;
 use std::test::Fail;
 use wx_broker::Broker;
 use wx_id::{ChannelNo, ContextNo, ExtensionId, Utf8Text};
-use wx_machine::{Answer, Context, JsonText, Listens, PagePath, Target, World};
+use wx_context::{Context, Listens, PagePath, Target};
+use wx_external::World;
+use wx_machine::{Answer, JsonText};
 use wx_script::{Scene, Script};
 
 /// What happens next: a turn of the endpoint, which is context 0, and what it comes to; or a call of context 1.

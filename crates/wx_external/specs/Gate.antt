@@ -59,7 +59,7 @@ verdict_of world (Web tab frame url) (Other id) = if admits_page (manifest_of wo
 verdict_of world (Web tab frame url) (Tab other within) = BadTarget
 
 -- whether a context may reach a target, and if so, whether from outside the target's extension
-unfoldable pub gate_of : WorldLists → Context → Target → Verdict
+abbrev pub gate_of : WorldLists → Context → Target → Verdict
 gate_of world caller target = verdict_of world caller (meant caller target)
 
 -- the host at that place lets the extension call

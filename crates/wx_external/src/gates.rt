@@ -63,7 +63,7 @@ fn own_or_other(ext: &ExtensionId, id: &ExtensionId) -> Target
 }
 
 /// Whom the caller means: `Other` with its own extension's id is `Own`.
-fn meant(caller: &Context, target: &Target) -> Target
+pub fn meant(caller: &Context, target: &Target) -> Target
     ensures { result ≡ spec.meant caller.now target.now }
 {
     match (caller, target) {
@@ -75,7 +75,6 @@ fn meant(caller: &Context, target: &Target) -> Target
 }
 
 /// Whether the caller may reach the target (Chrome's "Message passing" and "externally_connectable").
-#[tactic(auto, unfolding(crate::specs::Gate::gate_of))]
 pub fn gate(world: &World, caller: &Context, target: &Target) -> Verdict
     ensures { result ≡ spec.gate_of world.now caller.now target.now }
 {

@@ -1,6 +1,6 @@
 -- Worked examples of a journal's text.
 use Rattle.std.specs.Prelude.{◌≡◌, ◌++◌, [], reverse, codes}
-use Rattle.wx_machine.specs.declared.world.World.{World}
+use Rattle.wx_external.specs.World.{WorldLists}
 use Rattle.wx_machine.specs.Answers.{made_of}
 use Rattle.wx_machine.specs.Rows.{one_connection_calls, first_reply_calls}
 use Rattle.wx_journal.specs.Text.{journal_text}
@@ -8,12 +8,12 @@ use Rattle.wx_journal.specs.Text.{journal_text}
 -- two pages, one connection, one posted number
 abbrev pub OneConnectionOnePostText : Type 0
 OneConnectionOnePostText =
-    (world : World) → journal_text (reverse (made_of world one_connection_calls []))
+    (world : WorldLists) → journal_text (reverse (made_of world one_connection_calls []))
     ≡ codes "wx journal 1 chrome\nc0 enter page aaaaaaaaaaaaaaaaaaaaaaaaaaaaaaaa 2:/q -> context 0\nc1 enter page aaaaaaaaaaaaaaaaaaaaaaaaaaaaaaaa 2:/p -> context 1\nc1 listen c--- -> done\nc0 connect own 0: -> channel 0\nc1 take -> connected 0 3\nc0 post 0 1:1 -> posted\nc1 take -> message 0 5\nc0 disconnect 0 -> done\nc1 take -> disconnected 0 7\nc0 leave -> done\nc1 leave -> done\n"
 
 -- the first reply wins
 abbrev pub FirstReplyWinsText : Type 0
 FirstReplyWinsText =
-    (world : World) → journal_text (reverse (made_of world first_reply_calls []))
+    (world : WorldLists) → journal_text (reverse (made_of world first_reply_calls []))
     ≡ codes "wx journal 1 chrome\nc0 enter page aaaaaaaaaaaaaaaaaaaaaaaaaaaaaaaa 2:/s -> context 0\nc1 enter page aaaaaaaaaaaaaaaaaaaaaaaaaaaaaaaa 2:/p -> context 1\nc1 listen -m-- -> done\nc2 enter page aaaaaaaaaaaaaaaaaaaaaaaaaaaaaaaa 2:/q -> context 2\nc2 listen -m-- -> done\n"
     ++ codes "c0 send own 4:\"hi\" -> request 0\nc1 take -> asked 0 5\nc2 take -> asked 0 5\nc1 reply 0 1:1 -> first\nc2 reply 0 1:2 -> late\nc0 take -> replied 0 8\nc1 leave -> done\nc2 decline 0 -> late\nc0 leave -> done\nc2 leave -> done\n"

@@ -1,18 +1,21 @@
 -- The text of a journal. Each text is nested to the right: a word, a space, and what follows.
-use Rattle.std.specs.Prelude.{ℕ, length, List, ◌++◌, Bool, true, false, flat_map, decimal, codes}
+use Rattle.std.specs.Prelude.{ℕ, length, List, ◌++◌, Bool, true, false, Option, Some, None, flat_map, decimal, codes}
+use Rattle.wx_id.specs.declared.numbers.FrameId.{FrameId}
 use Rattle.wx_id.specs.declared.events.EventKind.{EventKind}
 use Rattle.wx_id.specs.declared.events.EventKind.TheVariants.{Connected, Message, Disconnected, Asked, Replied, Closed}
-use Rattle.wx_machine.specs.declared.contexts.Context.{Context}
-use Rattle.wx_machine.specs.declared.contexts.Context.TheVariants.{Page}
-use Rattle.wx_machine.specs.declared.contexts.Target.{Target}
-use Rattle.wx_machine.specs.declared.contexts.Target.TheVariants.{Own}
-use Rattle.wx_machine.specs.declared.contexts.Listens.{Listens}
+use Rattle.wx_context.specs.declared.contexts.Context.{Context}
+use Rattle.wx_context.specs.declared.contexts.Context.TheVariants.{Page, Content, Web}
+use Rattle.wx_context.specs.declared.contexts.Target.{Target}
+use Rattle.wx_context.specs.declared.contexts.Target.TheVariants.{Own, Other, Tab}
+use Rattle.wx_context.specs.declared.contexts.Listens.{Listens}
+use Rattle.wx_external.specs.declared.gates.Rule.{Rule}
+use Rattle.wx_external.specs.declared.gates.Rule.TheVariants.{Id, Url}
 use Rattle.wx_machine.specs.declared.entries.Who.{Who}
 use Rattle.wx_machine.specs.declared.entries.Who.TheVariants.{Context as ByContext}
 use Rattle.wx_machine.specs.declared.entries.Call.{Call}
 use Rattle.wx_machine.specs.declared.entries.Call.TheVariants.{Enter, Listen, Leave, Connect, Post, Disconnect, Send, Reply, Decline, Take}
 use Rattle.wx_machine.specs.declared.entries.Answer.{Answer}
-use Rattle.wx_machine.specs.declared.entries.Answer.TheVariants.{Entered, Channel as OnChannel, Request as OnRequest, Event as Told, Done, Gone, NoReceiver, Posted, NoPort, PortClosed, TooLong, NoEffect, First, Late, NotYours, Empty}
+use Rattle.wx_machine.specs.declared.entries.Answer.TheVariants.{Entered, Channel as OnChannel, Request as OnRequest, Event as Told, Done, Gone, BadTarget, Forbidden, NoReceiver, Posted, NoPort, PortClosed, TooLong, NoEffect, First, Late, NotYours, Empty}
 use Rattle.wx_machine.specs.declared.entries.Entry.{Entry}
 
 infixr 6 ◌␣◌
@@ -31,11 +34,20 @@ numbered word n = word ␣ decimal n
 abbrev pub who_text : Who → List ℕ
 who_text (ByContext c) = codes "c" ++ decimal c.0
 
+-- a frame, or any
+abbrev pub frame_text : Option FrameId → List ℕ
+frame_text None = codes "*"
+frame_text (Some frame) = decimal frame.0
+
 abbrev pub target_text : Target → List ℕ
 target_text Own = codes "own"
+target_text (Other id) = codes "ext" ␣ id
+target_text (Tab tab frame) = codes "tab" ␣ decimal tab.0 ␣ frame_text frame
 
 abbrev pub context_text : Context → List ℕ
 context_text (Page ext path) = codes "page" ␣ ext ␣ sized path
+context_text (Content ext tab frame url) = codes "content" ␣ ext ␣ decimal tab.0 ␣ decimal frame.0 ␣ sized url
+context_text (Web tab frame url) = codes "web" ␣ decimal tab.0 ␣ decimal frame.0 ␣ sized url
 
 abbrev pub flag : Bool → List ℕ → List ℕ
 flag true letter = letter
@@ -65,6 +77,10 @@ event_text (Asked r) e = codes "asked" ␣ decimal r.0 ␣ decimal e
 event_text (Replied r) e = codes "replied" ␣ decimal r.0 ␣ decimal e
 event_text (Closed r) e = codes "closed" ␣ decimal r.0 ␣ decimal e
 
+abbrev pub rule_text : Rule → List ℕ
+rule_text Id = codes "id"
+rule_text Url = codes "url"
+
 abbrev pub answer_text : Answer → List ℕ
 answer_text (Entered c) = numbered (codes "context") c.0
 answer_text (OnChannel k) = numbered (codes "channel") k.0
@@ -72,6 +88,8 @@ answer_text (OnRequest r) = numbered (codes "request") r.0
 answer_text (Told event) = event_text event.kind event.entry.0
 answer_text Done = codes "done"
 answer_text Gone = codes "gone"
+answer_text BadTarget = codes "bad_target"
+answer_text (Forbidden rule) = codes "forbidden" ␣ rule_text rule
 answer_text NoReceiver = codes "no_receiver"
 answer_text Posted = codes "posted"
 answer_text NoPort = codes "no_port"

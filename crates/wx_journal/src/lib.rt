@@ -8,6 +8,4 @@ mod print;
 mod tests;
 
 pub use list::Journal;
-pub use wx_machine::{
-    Answer, Call, Context, Entry, JsonText, Listens, PagePath, Target, Who, World,
-};
+pub use wx_machine::{Answer, Call, Entry, JsonText, Who};

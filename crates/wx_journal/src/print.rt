@@ -1,9 +1,11 @@
 ghost use Rattle.std.specs.Prelude.{◌≡◌, ◌++◌, OnOk, IfOk, decimal, codes};
-ghost use Rattle.wx_journal.specs.Text.{◌␣◌, event_text, sized, numbered, who_text, answer_text, listens_text, target_text, context_text, flag, call_text, entry_text, journal_text};
+ghost use Rattle.wx_journal.specs.Text.{◌␣◌, event_text, sized, numbered, who_text, rule_text, answer_text, listens_text, frame_text, target_text, context_text, flag, call_text, entry_text, journal_text};
 
 use std::alloc::{AllocError, Global};
-use wx_id::{Event, EventKind};
-use wx_machine::{Answer, Call, Context, Entry, Listens, Target, Who};
+use wx_context::{Context, Listens, Target, WebUrl};
+use wx_external::Rule;
+use wx_id::{Event, EventKind, FrameId, TabId};
+use wx_machine::{Answer, Call, Entry, Who};
 
 fn put(out: &mut Vec<u8>, bytes: &[u8]) -> Result<(), AllocError>
     ensures { OnOk result (out.new.items ≡ out.old.items ++ bytes.now) }
@@ -90,6 +92,15 @@ fn put_event(alloc: Global, out: &mut Vec<u8>, event: Event) -> Result<(), Alloc
     }
 }
 
+fn put_forbidden(out: &mut Vec<u8>, rule: Rule) -> Result<(), AllocError>
+    ensures { OnOk result (out.new.items ≡ out.old.items ++ (codes "forbidden" ␣ rule_text rule)) }
+{
+    match rule {
+        Rule::Id => put(out, b"forbidden id"),
+        Rule::Url => put(out, b"forbidden url"),
+    }
+}
+
 fn put_answer(alloc: Global, out: &mut Vec<u8>, answer: Answer) -> Result<(), AllocError>
     ensures { OnOk result (out.new.items ≡ out.old.items ++ answer_text answer) }
 {
@@ -100,6 +111,8 @@ fn put_answer(alloc: Global, out: &mut Vec<u8>, answer: Answer) -> Result<(), Al
         Answer::Event(event) => put_event(alloc, out, event),
         Answer::Done => put(out, b"done"),
         Answer::Gone => put(out, b"gone"),
+        Answer::BadTarget => put(out, b"bad_target"),
+        Answer::Forbidden(rule) => put_forbidden(out, rule),
         Answer::NoReceiver => put(out, b"no_receiver"),
         Answer::Posted => put(out, b"posted"),
         Answer::NoPort => put(out, b"no_port"),
@@ -128,12 +141,45 @@ fn put_listens(out: &mut Vec<u8>, l: Listens) -> Result<(), AllocError>
     put_flag(out, l.external_message, b"M")
 }
 
-fn put_target(out: &mut Vec<u8>, target: Target) -> Result<(), AllocError>
+/// A space, and a frame or any.
+fn put_frame(alloc: Global, out: &mut Vec<u8>, frame: Option<FrameId>) -> Result<(), AllocError>
+    ensures { OnOk result (out.new.items ≡ out.old.items ++ (codes " " ++ frame_text frame)) }
+{
+    match frame {
+        Some(frame) => put_next(alloc, out, frame.0 as u64),
+        None => put(out, b" *"),
+    }
+}
+
+fn put_target(alloc: Global, out: &mut Vec<u8>, target: Target) -> Result<(), AllocError>
     ensures { OnOk result (out.new.items ≡ out.old.items ++ target_text target) }
 {
     match target {
         Target::Own => put(out, b"own"),
+        Target::Other(id) => {
+            put(out, b"ext ")?;
+            put(out, id.text().as_bytes())
+        }
+        Target::Tab(tab, frame) => {
+            put_numbered(alloc, out, b"tab", tab.0 as u64)?;
+            put_frame(alloc, out, frame)
+        }
     }
+}
+
+/// A space, a tab and a frame, and an address behind its length.
+fn put_document(
+    alloc: Global,
+    out: &mut Vec<u8>,
+    tab: TabId,
+    frame: FrameId,
+    url: &WebUrl,
+) -> Result<(), AllocError>
+    ensures { OnOk result (out.new.items ≡ out.old.items ++ (codes " " ++ (decimal tab.0 ␣ decimal frame.0 ␣ sized url.now))) }
+{
+    put_next(alloc, out, tab.0 as u64)?;
+    put_next(alloc, out, frame.0 as u64)?;
+    put_spaced(alloc, out, url.url().as_str().as_bytes())
 }
 
 fn put_context(alloc: Global, out: &mut Vec<u8>, x: &Context) -> Result<(), AllocError>
@@ -144,6 +190,20 @@ fn put_context(alloc: Global, out: &mut Vec<u8>, x: &Context) -> Result<(), Allo
             put(out, b"page ")?;
             put(out, ext.text().as_bytes())?;
             put_spaced(alloc, out, path.text().as_bytes())
+        }
+        Context::Content {
+            ext,
+            tab,
+            frame,
+            url,
+        } => {
+            put(out, b"content ")?;
+            put(out, ext.text().as_bytes())?;
+            put_document(alloc, out, *tab, *frame, url)
+        }
+        Context::Web { tab, frame, url } => {
+            put(out, b"web")?;
+            put_document(alloc, out, *tab, *frame, url)
         }
     }
 }
@@ -160,7 +220,7 @@ fn put_to_target(
 {
     put(out, word)?;
     put(out, b" ")?;
-    put_target(out, target)?;
+    put_target(alloc, out, target)?;
     put_spaced(alloc, out, text)
 }
 

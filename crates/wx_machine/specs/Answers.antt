@@ -4,21 +4,37 @@ use Rattle.wx_id.specs.declared.numbers.ContextNo.{ContextNo}
 use Rattle.wx_id.specs.declared.events.Event.{Event}
 use Rattle.wx_id.specs.declared.events.End.{End}
 use Rattle.wx_id.specs.declared.events.End.TheVariants.{Neither}
-use Rattle.wx_machine.specs.declared.world.World.{World}
-use Rattle.wx_machine.specs.declared.contexts.Sort.TheVariants.{Connection, Message}
+use Rattle.wx_context.specs.declared.contexts.Context.{Context}
+use Rattle.wx_context.specs.declared.contexts.Target.{Target}
+use Rattle.wx_external.specs.declared.gates.Verdict.{Verdict}
+use Rattle.wx_external.specs.declared.gates.Verdict.TheVariants as gate
+use Rattle.wx_external.specs.World.{WorldLists}
+use Rattle.wx_external.specs.Gate.{gate_of}
+use Rattle.wx_machine.specs.declared.sorts.Sort.TheVariants.{Connection, Message}
 use Rattle.wx_machine.specs.declared.entries.Who.{Who}
 use Rattle.wx_machine.specs.declared.entries.Who.TheVariants.{Context as ByContext}
 use Rattle.wx_machine.specs.declared.entries.Call.{Call}
 use Rattle.wx_machine.specs.declared.entries.Call.TheVariants.{Enter, Listen, Leave, Connect, Post, Disconnect, Send, Reply, Decline, Take}
 use Rattle.wx_machine.specs.declared.entries.Answer.{Answer}
-use Rattle.wx_machine.specs.declared.entries.Answer.TheVariants.{Entered, Channel as OnChannel, Request as OnRequest, Event as Told, Done, Gone, NoReceiver, Posted, NoPort, PortClosed, TooLong, NoEffect, First, Late, NotYours, Empty}
+use Rattle.wx_machine.specs.declared.entries.Answer.TheVariants.{Entered, Channel as OnChannel, Request as OnRequest, Event as Told, Done, Gone, BadTarget, Forbidden, NoReceiver, Posted, NoPort, PortClosed, TooLong, NoEffect, First, Late, NotYours, Empty}
 use Rattle.wx_machine.specs.declared.entries.Entry.{Entry}
-use Rattle.wx_machine.specs.declared.texts.TheConstants.{LONGEST}
-use Rattle.wx_machine.specs.Contexts.{contexts, is_live, receivers_of}
+use Rattle.wx_machine.specs.declared.entries.TheConstants.{LONGEST}
+use Rattle.wx_machine.specs.Contexts.{contexts, context_of, is_live, receivers_of}
 use Rattle.wx_machine.specs.Channels.{channels, channel, end_in, is_closed}
 use Rattle.wx_machine.specs.Requests.{requests, request, is_asked, has_declined, is_settled}
 use Rattle.wx_machine.specs.Events.{pending, first}
 use Rattle.wx_machine.specs.Each.{EachAfter}
+
+-- whether a caller may reach the target; one that never came in may not
+abbrev pub gate_for : WorldLists → Option Context → Target → Verdict
+gate_for world None target = gate.BadTarget
+gate_for world (Some x) target = gate_of world x target
+
+-- where the gate is not open that is the answer
+abbrev pub where_open : Verdict → Answer → Answer
+where_open (gate.Open external) a = a
+where_open gate.BadTarget a = BadTarget
+where_open (gate.Forbidden rule) a = Forbidden rule
 
 -- with no receiver that is the answer
 abbrev pub where_heard : List ContextNo → Answer → Answer
@@ -47,14 +63,16 @@ told_or_empty None = Empty
 told_or_empty (Some event) = Told event
 
 -- what a live context is answered
-abbrev pub answer_to : World → List Entry → ContextNo → Call → Answer
+abbrev pub answer_to : WorldLists → List Entry → ContextNo → Call → Answer
 answer_to world past c (Enter x) = Entered (record { 0 = contexts past })
 answer_to world past c (Listen l) = Done
 answer_to world past c Leave = Done
-answer_to world past c (Connect target name) = where_heard (receivers_of past c target Connection) (OnChannel (record { 0 = length (channels past) }))
+answer_to world past c (Connect target name) =
+    where_open (gate_for world (context_of past c) target) (where_heard (receivers_of past c target Connection) (OnChannel (record { 0 = length (channels past) })))
 answer_to world past c (Post k text) = at_end (end_in (channel past k.0) c) (is_closed past k.0) PortClosed (where_short text Posted)
 answer_to world past c (Disconnect k) = at_end (end_in (channel past k.0) c) (is_closed past k.0) NoEffect Done
-answer_to world past c (Send target text) = where_heard (receivers_of past c target Message) (where_short text (OnRequest (record { 0 = length (requests past) })))
+answer_to world past c (Send target text) =
+    where_open (gate_for world (context_of past c) target) (where_heard (receivers_of past c target Message) (where_short text (OnRequest (record { 0 = length (requests past) }))))
 answer_to world past c (Reply r text) = on_request (is_asked (request past r.0) c) (is_late past r.0 c) (where_short text First)
 answer_to world past c (Decline r) = on_request (is_asked (request past r.0) c) (is_late past r.0 c) Done
 answer_to world past c Take = told_or_empty (first (pending past c))
@@ -65,7 +83,7 @@ if_live (Enter x) live a = a
 if_live _ live a = cond live a Gone
 
 -- the answer to a call after this past
-abbrev pub answer_after : World → List Entry → Who → Call → Answer
+abbrev pub answer_after : WorldLists → List Entry → Who → Call → Answer
 answer_after world past (ByContext c) call = if_live call (is_live past c) (answer_to world past c call)
 
 -- who may make a call: a context whose number was given out, and for an enter the next number
@@ -74,19 +92,19 @@ may_make past (ByContext c) (Enter x) = c.0 == contexts past
 may_make past (ByContext c) _ = nat_lt c.0 (contexts past)
 
 -- An entry was made by one who may make it, and has the machine's answer after the entries before it.
-pub record FollowsMachine (world : World) (past : List Entry) (e : Entry) : Type 0 where
+pub record FollowsMachine (world : WorldLists) (past : List Entry) (e : Entry) : Type 0 where
   pub may : IsTrue (may_make past e.who e.call)
   pub answered : e.answer ≡ answer_after world past e.who e.call
 
 -- the machine's answer to a call after a journal, whose oldest entry stands first
-abbrev pub answer_of : World → List Entry → Who → Call → Answer
+abbrev pub answer_of : WorldLists → List Entry → Who → Call → Answer
 answer_of world journal who call = answer_after world (reverse journal) who call
 
 -- a journal in which each entry follows the machine
-abbrev pub IsLegal : World → List Entry → Type 0
+abbrev pub IsLegal : WorldLists → List Entry → Type 0
 IsLegal world journal = EachAfter (FollowsMachine world) (reverse journal)
 
 -- the past that calls make, one after another
-abbrev pub made_of : World → List (Who × Call) → List Entry → List Entry
+abbrev pub made_of : WorldLists → List (Who × Call) → List Entry → List Entry
 made_of world [] past = past
 made_of world (c ∷ calls) past = made_of world calls (record { who = c.0; call = c.1; answer = answer_after world past c.0 c.1 } ∷ past)

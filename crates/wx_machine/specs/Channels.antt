@@ -12,7 +12,7 @@ use Rattle.wx_machine.specs.declared.entries.Call.TheVariants.{Connect, Disconne
 use Rattle.wx_machine.specs.declared.entries.Answer.{Answer}
 use Rattle.wx_machine.specs.declared.entries.Answer.TheVariants.{Channel as OnChannel}
 use Rattle.wx_machine.specs.declared.entries.Entry.{Entry}
-use Rattle.wx_machine.specs.declared.contexts.Sort.TheVariants.{Connection}
+use Rattle.wx_machine.specs.declared.sorts.Sort.TheVariants.{Connection}
 use Rattle.wx_machine.specs.Contexts.{same_context, is_live, receivers_of}
 
 -- the ends of a channel

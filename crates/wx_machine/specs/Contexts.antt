@@ -3,13 +3,15 @@
 use Rattle.std.specs.Prelude.{ℕ, ◌+◌, List, [], ◌∷◌, ◌++◌, Bool, true, false, not, ◌&&◌, ◌||◌, cond, Option, Some, None, filter, bytes_eq, ◌==◌}
 use Rattle.std.specs.Option.{option_or}
 use Rattle.wx_id.specs.declared.numbers.ContextNo.{ContextNo}
-use Rattle.wx_machine.specs.declared.contexts.Context.{Context}
-use Rattle.wx_machine.specs.declared.contexts.Context.TheVariants.{Page}
-use Rattle.wx_machine.specs.declared.contexts.Target.{Target}
-use Rattle.wx_machine.specs.declared.contexts.Target.TheVariants.{Own}
-use Rattle.wx_machine.specs.declared.contexts.Listens.{Listens}
-use Rattle.wx_machine.specs.declared.contexts.Sort.{Sort}
-use Rattle.wx_machine.specs.declared.contexts.Sort.TheVariants.{Connection, Message}
+use Rattle.wx_id.specs.declared.numbers.TabId.{TabId}
+use Rattle.wx_id.specs.declared.numbers.FrameId.{FrameId}
+use Rattle.wx_context.specs.declared.contexts.Context.{Context}
+use Rattle.wx_context.specs.declared.contexts.Context.TheVariants.{Page, Content, Web}
+use Rattle.wx_context.specs.declared.contexts.Target.{Target}
+use Rattle.wx_context.specs.declared.contexts.Target.TheVariants.{Own, Other, Tab}
+use Rattle.wx_context.specs.declared.contexts.Listens.{Listens}
+use Rattle.wx_machine.specs.declared.sorts.Sort.{Sort}
+use Rattle.wx_machine.specs.declared.sorts.Sort.TheVariants.{Connection, Message}
 use Rattle.wx_machine.specs.declared.entries.Who.{Who}
 use Rattle.wx_machine.specs.declared.entries.Who.TheVariants.{Context as ByContext}
 use Rattle.wx_machine.specs.declared.entries.Call.{Call}
@@ -17,6 +19,7 @@ use Rattle.wx_machine.specs.declared.entries.Call.TheVariants.{Enter, Listen, Le
 use Rattle.wx_machine.specs.declared.entries.Answer.{Answer}
 use Rattle.wx_machine.specs.declared.entries.Answer.TheVariants.{Entered}
 use Rattle.wx_machine.specs.declared.entries.Entry.{Entry}
+use Rattle.wx_external.specs.Gate.{meant}
 
 -- two numbers of contexts are one
 abbrev pub same_context : ContextNo → ContextNo → Bool
@@ -92,31 +95,60 @@ abbrev pub numbers : List Entry → List ContextNo
 numbers [] = []
 numbers (e ∷ past) = numbers past ++ numbers_of (enters e)
 
--- the extension of a context
+-- the extension of a context; a web page has none
 abbrev pub extension_of : Context → Option (List ℕ)
 extension_of (Page ext path) = Some ext
+extension_of (Content ext tab frame url) = Some ext
+extension_of (Web tab frame url) = None
 
 abbrev pub is_extension : Option (List ℕ) → List ℕ → Bool
 is_extension None id = false
 is_extension (Some ext) id = bytes_eq ext id
 
--- whether one who listens so hears that sort
-abbrev pub hears : Sort → Listens → Bool
-hears Connection l = l.connect
-hears Message l = l.message
+-- a page of that extension
+abbrev pub is_page_of : Option (List ℕ) → Context → Bool
+is_page_of own (Page ext path) = is_extension own ext
+is_page_of own _ = false
 
--- whether the target of a caller from that extension names a context
+-- the frame, or any where none is given
+abbrev pub is_frame : Option FrameId → FrameId → Bool
+is_frame None frame = true
+is_frame (Some f) frame = f.0 == frame.0
+
+-- a content script of that extension in that tab, and in that frame where one is given
+abbrev pub is_script_in : Option (List ℕ) → TabId → Option FrameId → Context → Bool
+is_script_in own t f (Content ext tab frame url) = is_extension own ext && t.0 == tab.0 && is_frame f frame
+is_script_in own t f _ = false
+
+-- whether a target of a caller from that extension names a context: pages of its own extension, pages of another, or its own content scripts in a tab
 abbrev pub names : Option (List ℕ) → Target → Context → Bool
-names own Own (Page ext path) = is_extension own ext
+names own Own y = is_page_of own y
+names own (Other id) y = is_page_of (Some id) y
+names own (Tab t f) y = is_script_in own t f y
 
-abbrev pub names_if : Option Context → Target → Sort → Option Context → Listens → Bool
-names_if (Some x) target sort (Some y) l = names (extension_of x) target y && hears sort l
-names_if _ target sort _ l = false
+-- what is for another extension comes to it from outside
+abbrev pub is_external : Target → Bool
+is_external (Other id) = true
+is_external _ = false
+
+-- whether one who listens so hears that sort, from its own extension or from outside
+abbrev pub hears : Sort → Bool → Listens → Bool
+hears Connection external l = cond external l.external_connect l.connect
+hears Message external l = cond external l.external_message l.message
+
+-- whether what is for that target reaches a context that listens so
+abbrev pub reaches : Option (List ℕ) → Target → Sort → Context → Listens → Bool
+reaches own target sort y l = names own target y && hears sort (is_external target) l
+
+-- the same of what the caller means by the target
+abbrev pub reaches_from : Option Context → Target → Sort → Option Context → Listens → Bool
+reaches_from (Some x) target sort (Some y) l = reaches (extension_of x) (meant x target) sort y l
+reaches_from _ target sort _ l = false
 
 -- whether context d is a receiver of what context c sends to a target (WebExtensions "runtime.connect" and "runtime.sendMessage")
 abbrev pub is_receiver : List Entry → ContextNo → Target → Sort → ContextNo → Bool
 is_receiver past c target sort d =
-    not (same_context d c) && is_live past d && names_if (context_of past c) target sort (context_of past d) (listens_of past d)
+    not (same_context d c) && is_live past d && reaches_from (context_of past c) target sort (context_of past d) (listens_of past d)
 
 -- the receivers of what context c sends to a target, in rising number
 abbrev pub receivers_of : List Entry → ContextNo → Target → Sort → List ContextNo

@@ -1,4 +1,3 @@
-pub mod Texts
 pub mod Each
 pub mod Carried
 pub mod Contexts

@@ -3,7 +3,7 @@ use Rattle.std.specs.Prelude.{ℕ, length, List, [], ◌∷◌, ◌++◌, Bool, 
 use Rattle.std.specs.Option.{option_or}
 use Rattle.std.specs.List.{list_any}
 use Rattle.wx_id.specs.declared.numbers.ContextNo.{ContextNo}
-use Rattle.wx_machine.specs.declared.contexts.Sort.TheVariants.{Message}
+use Rattle.wx_machine.specs.declared.sorts.Sort.TheVariants.{Message}
 use Rattle.wx_machine.specs.declared.entries.Who.{Who}
 use Rattle.wx_machine.specs.declared.entries.Who.TheVariants.{Context as ByContext}
 use Rattle.wx_machine.specs.declared.entries.Call.{Call}
@@ -11,7 +11,7 @@ use Rattle.wx_machine.specs.declared.entries.Call.TheVariants.{Leave, Send, Repl
 use Rattle.wx_machine.specs.declared.entries.Answer.{Answer}
 use Rattle.wx_machine.specs.declared.entries.Answer.TheVariants.{Request as OnRequest}
 use Rattle.wx_machine.specs.declared.entries.Entry.{Entry}
-use Rattle.wx_machine.specs.declared.texts.TheConstants.{LONGEST}
+use Rattle.wx_machine.specs.declared.entries.TheConstants.{LONGEST}
 use Rattle.wx_machine.specs.Contexts.{same_context, is_by, is_live, receivers_of}
 use Rattle.wx_machine.specs.Channels.{is_among}
 

@@ -4,9 +4,9 @@ use Rattle.wx_id.specs.declared.numbers.ChannelNo.{ChannelNo}
 use Rattle.wx_id.specs.declared.numbers.RequestNo.{RequestNo}
 use Rattle.wx_id.specs.declared.events.EventKind.{EventKind}
 use Rattle.wx_id.specs.declared.events.EventKind.TheVariants.{Connected, Message, Disconnected, Asked, Replied, Closed}
-use Rattle.wx_machine.specs.declared.contexts.Context.TheVariants.{Page}
-use Rattle.wx_machine.specs.declared.contexts.Target.TheVariants.{Own}
-use Rattle.wx_machine.specs.declared.world.World.{World}
+use Rattle.wx_context.specs.declared.contexts.Context.TheVariants.{Page}
+use Rattle.wx_context.specs.declared.contexts.Target.TheVariants.{Own}
+use Rattle.wx_external.specs.World.{WorldLists}
 use Rattle.wx_machine.specs.declared.entries.Who.{Who}
 use Rattle.wx_machine.specs.declared.entries.Who.TheVariants.{Context as ByContext}
 use Rattle.wx_machine.specs.declared.entries.Call.{Call}
@@ -44,7 +44,7 @@ told n kind = Told (record { entry = record { 0 = n }; kind = kind })
 abbrev pub entered : ℕ → Answer
 entered n = Entered (record { 0 = n })
 
-abbrev pub answers_to : World → List (Who × Call) → List Answer
+abbrev pub answers_to : WorldLists → List (Who × Call) → List Answer
 answers_to world calls = map (λ (e : Entry). e.answer) (reverse (made_of world calls []))
 
 -- two pages, one connection, one posted number
@@ -55,14 +55,14 @@ one_connection_calls =
 
 abbrev pub OneConnectionOnePost : Type 0
 OneConnectionOnePost =
-    (world : World) → answers_to world one_connection_calls
+    (world : WorldLists) → answers_to world one_connection_calls
     ≡ entered 0 ∷ entered 1 ∷ Done ∷ OnChannel (channel 0) ∷ told 3 (Connected (channel 0))
     ∷ Posted ∷ told 5 (Message (channel 0)) ∷ Done ∷ told 7 (Disconnected (channel 0)) ∷ Done ∷ Done ∷ []
 
 -- a page that listens does not reach itself
 abbrev pub ConnectReachesNobody : Type 0
 ConnectReachesNobody =
-    (world : World) → answers_to world (by 0 (a_page (codes "/p")) ∷ by 0 listen_connect ∷ by 0 connect ∷ by 0 Leave ∷ [])
+    (world : WorldLists) → answers_to world (by 0 (a_page (codes "/p")) ∷ by 0 listen_connect ∷ by 0 connect ∷ by 0 Leave ∷ [])
     ≡ entered 0 ∷ Done ∷ NoReceiver ∷ Done ∷ []
 
 -- a page that connects, and two that listen and take the connection
@@ -79,7 +79,7 @@ two_listeners_answers =
 -- a receiver's disconnect closes the channel to the other receiver too, and the opener alone is told
 abbrev pub ReceiverDisconnects : Type 0
 ReceiverDisconnects =
-    (world : World) → answers_to world
+    (world : WorldLists) → answers_to world
     (two_listeners
     ++ (by 1 (Disconnect (channel 0)) ∷ by 2 (post 0 (codes "7")) ∷ by 0 Take ∷ by 1 (Disconnect (channel 0)) ∷ by 2 Take ∷ by 0 Leave ∷ by 1 Leave ∷ by 2 Leave ∷ []))
     ≡ two_listeners_answers ++ (Done ∷ PortClosed ∷ told 8 (Disconnected (channel 0)) ∷ NoEffect ∷ Empty ∷ Done ∷ Done ∷ Done ∷ [])
@@ -90,14 +90,14 @@ receiver_leaves_calls = two_listeners ++ (by 1 Leave ∷ by 2 (post 0 (codes "7"
 -- a receiver's leave closes the channel only where no receiver is left
 abbrev pub ReceiverLeaves : Type 0
 ReceiverLeaves =
-    (world : World)
+    (world : WorldLists)
     → (answers_to world receiver_leaves_calls ≡ two_listeners_answers ++ (Done ∷ Posted ∷ told 9 (Message (channel 0)) ∷ Done ∷ Done ∷ []))
     × (closed_at (made_of world receiver_leaves_calls []) 0 ≡ Some 11)
 
 -- what was posted before the opener left stays to be taken
 abbrev pub PostsOutliveTheOpener : Type 0
 PostsOutliveTheOpener =
-    (world : World) → answers_to world
+    (world : WorldLists) → answers_to world
     (by 0 (a_page (codes "/q")) ∷ by 1 (a_page (codes "/p")) ∷ by 1 listen_connect ∷ by 0 connect ∷ by 1 listen_connect
     ∷ by 0 (post 0 (codes "1")) ∷ by 1 listen_connect ∷ by 0 (post 0 (codes "2")) ∷ by 1 listen_connect ∷ by 0 (post 0 (codes "3")) ∷ by 1 listen_connect
     ∷ by 0 Leave ∷ by 1 listen_connect ∷ by 1 Take ∷ by 1 Take ∷ by 1 Take ∷ by 1 Take ∷ by 1 Take ∷ by 1 Take ∷ by 1 Leave ∷ [])
@@ -107,7 +107,7 @@ PostsOutliveTheOpener =
 -- one who disconnects a channel takes nothing more of it
 abbrev pub DisconnectDropsWhatWaits : Type 0
 DisconnectDropsWhatWaits =
-    (world : World) → answers_to world
+    (world : WorldLists) → answers_to world
     (by 0 (a_page (codes "/q")) ∷ by 1 (a_page (codes "/p")) ∷ by 1 listen_connect ∷ by 0 connect ∷ by 1 listen_connect
     ∷ by 0 (post 0 (codes "1")) ∷ by 1 listen_connect ∷ by 0 (post 0 (codes "2")) ∷ by 1 Take ∷ by 0 (post 0 (codes "3"))
     ∷ by 1 (Disconnect (channel 0)) ∷ by 0 Leave ∷ by 1 Take ∷ by 1 Leave ∷ [])
@@ -146,25 +146,25 @@ first_reply_calls = two_asked ++ (by 1 (reply 0 (codes "1")) ∷ by 2 (reply 0 (
 -- the first reply wins
 abbrev pub FirstReplyWins : Type 0
 FirstReplyWins =
-    (world : World) → answers_to world first_reply_calls
+    (world : WorldLists) → answers_to world first_reply_calls
     ≡ two_asked_answers ++ (First ∷ Late ∷ told 8 (Replied (request 0)) ∷ Done ∷ Late ∷ Done ∷ Done ∷ [])
 
 -- a request is closed where its receivers have declined or left
 abbrev pub ClosedWithoutReply : Type 0
 ClosedWithoutReply =
-    (world : World) → answers_to world (two_asked ++ (by 1 (decline 0) ∷ by 2 Leave ∷ by 0 Take ∷ by 1 Leave ∷ by 0 Leave ∷ []))
+    (world : WorldLists) → answers_to world (two_asked ++ (by 1 (decline 0) ∷ by 2 Leave ∷ by 0 Take ∷ by 1 Leave ∷ by 0 Leave ∷ []))
     ≡ two_asked_answers ++ (Done ∷ Done ∷ told 9 (Closed (request 0)) ∷ Done ∷ Done ∷ [])
 
 -- an asker that leaves settles its request: the reply comes late, and nobody is told
 abbrev pub AskerLeaves : Type 0
 AskerLeaves =
-    (world : World) → answers_to world (two_asked ++ (by 0 Leave ∷ by 1 (reply 0 (codes "1")) ∷ by 2 (decline 0) ∷ by 1 Take ∷ by 2 Take ∷ by 0 Take ∷ []))
+    (world : WorldLists) → answers_to world (two_asked ++ (by 0 Leave ∷ by 1 (reply 0 (codes "1")) ∷ by 2 (decline 0) ∷ by 1 Take ∷ by 2 Take ∷ by 0 Take ∷ []))
     ≡ two_asked_answers ++ (Done ∷ Late ∷ Late ∷ Empty ∷ Empty ∷ Gone ∷ [])
 
 -- a decline before the request is made is none of its receiver, who may still reply
 abbrev pub EarlyDecline : Type 0
 EarlyDecline =
-    (world : World) → answers_to world
+    (world : WorldLists) → answers_to world
     (by 0 (a_page (codes "/s")) ∷ by 1 (a_page (codes "/p")) ∷ by 1 listen_message ∷ by 1 (decline 0)
     ∷ by 0 (send (codes "1")) ∷ by 0 (reply 0 (codes "2")) ∷ by 1 (reply 0 (codes "3")) ∷ by 0 Take ∷ by 1 Take ∷ [])
     ≡ entered 0 ∷ entered 1 ∷ Done ∷ NotYours

@@ -1,6 +1,10 @@
-use crate::contexts::{Context, Listens, Target};
+use wx_context::{Context, Listens, Target};
+use wx_external::Rule;
 use wx_id::{ChannelNo, ContextNo, Event, RequestNo, Utf8Text};
 use wx_json::JsonText;
+
+/// The longest text that is passed on, in bytes.
+pub const LONGEST: u64 = 67_108_864;
 
 /// Who makes a call.
 #[derive(Clone, Copy, Debug, PartialEq, Eq)]
@@ -49,6 +53,10 @@ pub enum Answer {
     Done,
     /// The caller does not live.
     Gone,
+    /// Contexts of the caller's sort have no such target.
+    BadTarget,
+    /// The target's extension does not let the caller in, by this rule.
+    Forbidden(Rule),
     /// No context that the target names listens.
     NoReceiver,
     /// The message goes to the other side.

@@ -8,9 +8,9 @@ use Rattle.std.proofs.lemmas.List.{reverse-append, length-map}
 use Rattle.std.proofs.lemmas.Option.{slice_get-map}
 use Rattle.std.proofs.Math.Seq.{take-length}
 use Rattle.wx_id.specs.declared.numbers.ContextNo.{ContextNo}
-use Rattle.wx_machine.specs.declared.world.World.{World}
-use Rattle.wx_machine.specs.declared.contexts.Context.{Context}
-use Rattle.wx_machine.specs.declared.contexts.Listens.{Listens}
+use Rattle.wx_external.specs.World.{WorldLists}
+use Rattle.wx_context.specs.declared.contexts.Context.{Context}
+use Rattle.wx_context.specs.declared.contexts.Listens.{Listens}
 use Rattle.wx_machine.specs.declared.entries.Who.TheVariants.{Context as ByContext}
 use Rattle.wx_machine.specs.declared.entries.Call.TheVariants as call
 use Rattle.wx_machine.specs.declared.entries.Answer.TheVariants as answer
@@ -128,14 +128,14 @@ entered_cursor s c x past below =
     λ i. record { script = s; place = (sym stands) i; made = made i }
 
 -- what `enter` answers
-enter_follows : (world : World) (past : List Entry) (c : ContextNo) (x : Context) → answer.Entered c ≡ answer_after world past (ByContext c) (call.Enter x)
+enter_follows : (world : WorldLists) (past : List Entry) (c : ContextNo) (x : Context) → answer.Entered c ≡ answer_after world past (ByContext c) (call.Enter x)
     → (c ≡ numbered (contexts past)) × FollowsMachine world past (entered (numbered (contexts past)) x)
 enter_follows world past c x answered =
     let same : c ≡ numbered (contexts past) = cc in
     (same, record { may = eq-eqb (contexts past) (contexts past) refl; answered = refl })
 
 -- it may make its first turn
-ready_entered : (world : World) (past : List Entry) (s : List Command) (x : Context) → EachAfter (FollowsMachine world) past → AreBelow (contexts past) past
+ready_entered : (world : WorldLists) (past : List Entry) (s : List Command) (x : Context) → EachAfter (FollowsMachine world) past → AreBelow (contexts past) past
     → FollowsMachine world past (entered (numbered (contexts past)) x) → IsReady world (numbered (contexts past)) (cursor_at_start s) (entered (numbered (contexts past)) x ∷ past)
 ready_entered world past s x legal below follows =
     let c = numbered (contexts past) in
@@ -204,7 +204,7 @@ script_at : (endpoints : List SceneEndpoint) (i : ℕ) (e : SceneEndpoint) → s
 script_at endpoints i e is = slice_get-map (λ (e : SceneEndpoint). e.script) endpoints i ∙ ap (option_map (λ (e : SceneEndpoint). e.script)) is
 
 -- an endpoint has come in, and made nothing else
-record HasEntered (world : World) (endpoints : List SceneEndpoint) (i : ℕ) (s : List Command) (ps : List CursorState) (past : List Entry) : Type 0 where
+record HasEntered (world : WorldLists) (endpoints : List SceneEndpoint) (i : ℕ) (s : List Command) (ps : List CursorState) (past : List Entry) : Type 0 where
   legal : EachAfter (FollowsMachine world) past
   front : ps ≡ cursors_from (take i (scripts_at endpoints)) 0 past
   cursor : cursor_at_start s ≡ cursor_of s (numbered i) past
@@ -213,7 +213,7 @@ record HasEntered (world : World) (endpoints : List SceneEndpoint) (i : ℕ) (s 
   follows : Follows (scripts_at endpoints) past
   within_limit : IsWithinLimit past
 
-enter_step : (world : World) (endpoints : List SceneEndpoint) (i : ℕ) (e : SceneEndpoint) (ps : List CursorState) (past : List Entry) → slice_get endpoints i ≡ Some e
+enter_step : (world : WorldLists) (endpoints : List SceneEndpoint) (i : ℕ) (e : SceneEndpoint) (ps : List CursorState) (past : List Entry) → slice_get endpoints i ≡ Some e
     → OpenedSoFar world endpoints i ps past → FollowsMachine world past (entered (numbered i) e.context) → HasEntered world endpoints i e.script ps (entered (numbered i) e.context ∷ past)
 enter_step world endpoints i e ps past is so follows =
     let c = numbered i in
@@ -238,14 +238,14 @@ enter_step world endpoints i e ps past is so follows =
     }
 
 -- the answer to a `listen` behind the `enter`
-listen_answer : (world : World) (past : List Entry) (c : ContextNo) (x : Context) (l : Listens) → AreBelow c.0 past → answer_after world (entered c x ∷ past) (ByContext c) (call.Listen l) ≡ answer.Done
+listen_answer : (world : WorldLists) (past : List Entry) (c : ContextNo) (x : Context) (l : Listens) → AreBelow c.0 past → answer_after world (entered c x ∷ past) (ByContext c) (call.Listen l) ≡ answer.Done
 listen_answer world past c x l below = ap (λ b. cond b answer.Done answer.Gone) (is_live-entered past c x below)
 
 same_entry : (e : Entry) (c : ContextNo) (l : Listens) → e.who ≡ ByContext c → e.call ≡ call.Listen l → e.answer ≡ answer.Done → e ≡ listened c l
 same_entry e c l who call answer = λ i. record { who = who i; call = call i; answer = answer i }
 
 -- what the endpoint's first turn makes is its `listen`
-listen_made : (world : World) (s : List Command) (c : ContextNo) (x : Context) (l : Listens) (p : CursorState) (past after : List Entry) → AreBelow c.0 past → first_listen s ≡ Some l
+listen_made : (world : WorldLists) (s : List Command) (c : ContextNo) (x : Context) (l : Listens) (p : CursorState) (past after : List Entry) → AreBelow c.0 past → first_listen s ≡ Some l
     → cursor_at_start s ≡ cursor_of s c (entered c x ∷ past) → (moves : Moves world c (cursor_at_start s) p (entered c x ∷ past) after) → moves.entry ≡ listened c l
 listen_made world s c x l p past after below first cursor moves =
     let before = entered c x ∷ past in
@@ -267,7 +267,7 @@ begins_more endpoints i e o past after is first begins made =
     ∙ sym (ap (λ o. reverse (entered (numbered i) e.context ∷ option_to_list (option_map (listened (numbered i)) o)) ++ reverse (opening_from 0 (take i endpoints))) first)
     ∙ sym (reverse-opening endpoints i e is)
 
-opened_by : (world : World) (endpoints : List SceneEndpoint) (i : ℕ) (e : SceneEndpoint) (o : Option Listens) (ps : List CursorState) (p : CursorState) (past after : List Entry) → slice_get endpoints i ≡ Some e
+opened_by : (world : WorldLists) (endpoints : List SceneEndpoint) (i : ℕ) (e : SceneEndpoint) (o : Option Listens) (ps : List CursorState) (p : CursorState) (past after : List Entry) → slice_get endpoints i ≡ Some e
     → first_listen e.script ≡ o → OpenedSoFar world endpoints i ps past → HasEntered world endpoints i e.script ps (entered (numbered i) e.context ∷ past)
     → IsOpenedBy world (numbered i) e.script o p (entered (numbered i) e.context ∷ past) after → OpenedSoFar world endpoints (i + 1) (ps ++ p ∷ []) after
 opened_by world endpoints i e None ps p past after is first so came opened =
@@ -309,7 +309,7 @@ opened_by world endpoints i e (Some l) ps p past after is first so came opened =
           absurd cc
     ] opened.1
 
-pub opened_step : (world : World) (endpoints : List SceneEndpoint) (i : ℕ) (e : SceneEndpoint) (ps : List CursorState) (p : CursorState) (past after : List Entry) → slice_get endpoints i ≡ Some e
+pub opened_step : (world : WorldLists) (endpoints : List SceneEndpoint) (i : ℕ) (e : SceneEndpoint) (ps : List CursorState) (p : CursorState) (past after : List Entry) → slice_get endpoints i ≡ Some e
     → OpenedSoFar world endpoints i ps past → IsOpened world e p past after → OpenedSoFar world endpoints (i + 1) (ps ++ p ∷ []) after
 opened_step world endpoints i e ps p past after is so opened =
     let follows : FollowsMachine world past (entered (numbered i) e.context) = subst (λ n. FollowsMachine world past (entered (numbered n) e.context)) so.all_in.counted opened.follows in
@@ -317,11 +317,11 @@ opened_step world endpoints i e ps p past after is so opened =
     (subst (λ n. IsOpenedBy world (numbered n) e.script (first_listen e.script) p (entered (numbered n) e.context ∷ past) after) so.all_in.counted opened.opened)
 
 -- before the first endpoint
-pub opened_none : (world : World) (endpoints : List SceneEndpoint) → OpenedSoFar world endpoints 0 [] []
+pub opened_none : (world : WorldLists) (endpoints : List SceneEndpoint) → OpenedSoFar world endpoints 0 [] []
 opened_none world endpoints = record { legal = tt; begins = refl; behind = refl; all_in = record { counted = refl; below = tt }; follows = tt; within_limit = λ c. omega arith }
 
 -- the cursors with one more
-pub opened_push : (world : World) (endpoints : List SceneEndpoint) (i : ℕ) (ps qs : List CursorState) (p : CursorState) (b : Bool) (past : List Entry) → qs ≡ cond b (ps ++ p ∷ []) ps → b ≡ true
+pub opened_push : (world : WorldLists) (endpoints : List SceneEndpoint) (i : ℕ) (ps qs : List CursorState) (p : CursorState) (b : Bool) (past : List Entry) → qs ≡ cond b (ps ++ p ∷ []) ps → b ≡ true
     → OpenedSoFar world endpoints i (ps ++ p ∷ []) past → OpenedSoFar world endpoints i qs past
 opened_push world endpoints i ps qs p true past is ok so = subst (λ ps. OpenedSoFar world endpoints i ps past) (sym is) so
 opened_push world endpoints i ps qs p false past is ok so = absurd cc
@@ -333,13 +333,13 @@ take_scripts endpoints =
     ap (λ n. take n (scripts_at endpoints)) (sym (length-map endpoints (λ (e : SceneEndpoint). e.script)))
     ∙ take-length (scripts_at endpoints)
 
-opened_behind : (world : World) (endpoints : List SceneEndpoint) (ps : List CursorState) (past : List Entry) → OpenedSoFar world endpoints (length endpoints) ps past → AreBehind (scripts_at endpoints) ps past
+opened_behind : (world : WorldLists) (endpoints : List SceneEndpoint) (ps : List CursorState) (past : List Entry) → OpenedSoFar world endpoints (length endpoints) ps past → AreBehind (scripts_at endpoints) ps past
 opened_behind world endpoints ps past so = so.behind ∙ ap (λ ss. cursors_from ss 0 past) (take_scripts endpoints)
 
-opened_scripts : (world : World) (endpoints : List SceneEndpoint) (ps : List CursorState) (past : List Entry) → OpenedSoFar world endpoints (length endpoints) ps past → scripts_in ps ≡ scripts_at endpoints
+opened_scripts : (world : WorldLists) (endpoints : List SceneEndpoint) (ps : List CursorState) (past : List Entry) → OpenedSoFar world endpoints (length endpoints) ps past → scripts_in ps ≡ scripts_at endpoints
 opened_scripts world endpoints ps past so = ap scripts_in (opened_behind world endpoints ps past so) ∙ scripts_in-cursors_from (scripts_at endpoints) 0 past
 
-pub opened_stand : (world : World) (endpoints : List SceneEndpoint) (ps : List CursorState) (past : List Entry) → OpenedSoFar world endpoints (length endpoints) ps past → AllStand world (scripts_in ps) ps past
+pub opened_stand : (world : WorldLists) (endpoints : List SceneEndpoint) (ps : List CursorState) (past : List Entry) → OpenedSoFar world endpoints (length endpoints) ps past → AllStand world (scripts_in ps) ps past
 opened_stand world endpoints ps past so =
     let all : length (scripts_at endpoints) ≡ length endpoints = length-map endpoints (λ (e : SceneEndpoint). e.script) in
     subst (λ ss. AllStand world ss ps past) (sym (opened_scripts world endpoints ps past so)) (record {
@@ -350,7 +350,7 @@ opened_stand world endpoints ps past so =
       within_limit = so.within_limit;
     })
 
-pub run_of : (world other : World) (scene : SceneValue) (ps : List CursorState) (opened : List Entry) (journal : List Entry) (end : RunEnd) → IsLegal world journal
+pub run_of : (world other : WorldLists) (scene : SceneValue) (ps : List CursorState) (opened : List Entry) (journal : List Entry) (end : RunEnd) → IsLegal world journal
     → OpenedSoFar other scene.endpoints (length scene.endpoints) ps opened → AreRounds (scripts_in ps) opened (reverse journal) end → IsRunOf world scene journal end
 run_of world other scene ps opened journal end legal so came =
     let endpoints = scene.endpoints in

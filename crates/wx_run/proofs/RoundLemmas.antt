@@ -5,7 +5,7 @@ use Rattle.std.proofs.lemmas.Bool.{cases_lt, eqb-true, eq-eqb}
 use Rattle.std.proofs.lemmas.Option.{slice_get_read, slice_get_within}
 use Rattle.std.proofs.Math.Seq.{take-length}
 use Rattle.wx_id.specs.declared.numbers.ContextNo.{ContextNo}
-use Rattle.wx_machine.specs.declared.world.World.{World}
+use Rattle.wx_external.specs.World.{WorldLists}
 use Rattle.wx_machine.specs.declared.entries.Who.TheVariants.{Context as ByContext}
 use Rattle.wx_machine.specs.declared.entries.Entry.{Entry}
 use Rattle.wx_script.specs.declared.script.Command.{Command}
@@ -51,7 +51,7 @@ stands_at scripts i ps qs p q past behind at =
     let both : Some p ≡ Some (cursor_of at.script (numbered i) past) = sym at.stands ∙ there in
     cc
 
-pub ready_at : (world : World) (scripts : List (List Command)) (i : ℕ) (ps qs : List CursorState) (p q : CursorState) (past : List Entry) → AllStand world scripts ps past → first_spent_in 0 ps ≡ None
+pub ready_at : (world : WorldLists) (scripts : List (List Command)) (i : ℕ) (ps qs : List CursorState) (p q : CursorState) (past : List Entry) → AllStand world scripts ps past → first_spent_in 0 ps ≡ None
     → At scripts i ps qs p q → IsReady world (numbered i) p past
 ready_at world scripts i ps qs p q past stand unspent at =
     let p_is = stands_at scripts i ps qs p q past stand.behind at in
@@ -97,7 +97,7 @@ within_more c past e own less within d =
           omega (arith, so, more)
     ] refl
 
-moved_stand : (world : World) (scripts : List (List Command)) (i : ℕ) (ps qs : List CursorState) (p q : CursorState) (b c : List Entry) → AllStand world scripts ps b → At scripts i ps qs p q → Moves world (numbered i) p q b c → AllStand world scripts qs c
+moved_stand : (world : WorldLists) (scripts : List (List Command)) (i : ℕ) (ps qs : List CursorState) (p q : CursorState) (b c : List Entry) → AllStand world scripts ps b → At scripts i ps qs p q → Moves world (numbered i) p q b c → AllStand world scripts qs c
 moved_stand world scripts i ps qs p q b c stand at moves =
     let p_is = stands_at scripts i ps qs p q b stand.behind at in
     let e = moves.entry in
@@ -127,7 +127,7 @@ idle_step scripts i s a b idle is now = record {
 }
 
 -- the turn of an endpoint that makes an entry, behind which it is not spent
-round_moves : (world : World) (scripts : List (List Command)) (i : ℕ) (ps qs : List CursorState) (p q : CursorState) (a b c : List Entry) (moved : Bool)
+round_moves : (world : WorldLists) (scripts : List (List Command)) (i : ℕ) (ps qs : List CursorState) (p q : CursorState) (a b c : List Entry) (moved : Bool)
     → RoundSoFar world scripts i ps a b moved → At scripts i ps qs p q → Moves world (numbered i) p q b c → is_spent_at q ≡ false → RoundSoFar world scripts (i + 1) qs a c true
 round_moves world scripts i ps qs p q a b c moved so at moves is = record {
   stand = moved_stand world scripts i ps qs p q b c so.stand at moves;
@@ -137,7 +137,7 @@ round_moves world scripts i ps qs p q a b c moved so at moves is = record {
 }
 
 -- the turn of an endpoint that makes an entry, behind which it is spent
-round_spends : (world : World) (scripts : List (List Command)) (i : ℕ) (ps qs : List CursorState) (p q : CursorState) (a b c : List Entry) (moved : Bool)
+round_spends : (world : WorldLists) (scripts : List (List Command)) (i : ℕ) (ps qs : List CursorState) (p q : CursorState) (a b c : List Entry) (moved : Bool)
     → RoundSoFar world scripts i ps a b moved → At scripts i ps qs p q → Moves world (numbered i) p q b c → is_spent_at q ≡ true
     → AllStand world scripts qs c × IsRound scripts qs a c (Spent i)
 round_spends world scripts i ps qs p q a b c moved so at moves is = (
@@ -152,7 +152,7 @@ same_cursors : (scripts : List (List Command)) (i : ℕ) (ps qs : List CursorSta
 same_cursors scripts i ps qs p q at same = at.changed ∙ ap (λ q. set ps i q) same ∙ set_same ps i p at.stands
 
 -- the turn of an endpoint that can do nothing
-round_rests : (world : World) (scripts : List (List Command)) (i : ℕ) (ps qs : List CursorState) (p q : CursorState) (a b c : List Entry) (moved : Bool)
+round_rests : (world : WorldLists) (scripts : List (List Command)) (i : ℕ) (ps qs : List CursorState) (p q : CursorState) (a b c : List Entry) (moved : Bool)
     → RoundSoFar world scripts i ps a b moved → At scripts i ps qs p q → Rests (numbered i) p q b c → RoundSoFar world scripts (i + 1) qs a c moved
 round_rests world scripts i ps qs p q a b c moved so at rests =
     let same : qs ≡ ps = same_cursors scripts i ps qs p q at rests.same_cursor in
@@ -179,7 +179,7 @@ work_in-set (r ∷ ps) zero p q is less more =
     omega arith
 work_in-set (r ∷ ps) (suc i) p q is less more = omega (arith, work_in-set ps i p q is less more)
 
-moves_less : (world : World) (scripts : List (List Command)) (i : ℕ) (ps qs : List CursorState) (p q : CursorState) (b c : List Entry) → AllStand world scripts ps b → At scripts i ps qs p q → Moves world (numbered i) p q b c → work_in qs < work_in ps
+moves_less : (world : WorldLists) (scripts : List (List Command)) (i : ℕ) (ps qs : List CursorState) (p q : CursorState) (b c : List Entry) → AllStand world scripts ps b → At scripts i ps qs p q → Moves world (numbered i) p q b c → work_in qs < work_in ps
 moves_less world scripts i ps qs p q b c stand at moves =
     let p_is = stands_at scripts i ps qs p q b stand.behind at in
     let made : p.made ≡ entries_by (numbered i) b = ap (λ (p : CursorState). p.made) p_is in
@@ -190,36 +190,36 @@ moves_less world scripts i ps qs p q b c stand at moves =
 
 -- ---- one more turn, whatever it came to
 
-pub turn_made : (world : World) (scripts : List (List Command)) (i : ℕ) (ps qs : List CursorState) (p q : CursorState) (a b c : List Entry) (moved made : Bool)
+pub turn_made : (world : WorldLists) (scripts : List (List Command)) (i : ℕ) (ps qs : List CursorState) (p q : CursorState) (a b c : List Entry) (moved made : Bool)
     → RoundSoFar world scripts i ps a b moved → At scripts i ps qs p q → IsStep world (numbered i) p q b c made → is_spent_at q ≡ false → RoundSoFar world scripts (i + 1) qs a c (moved || made)
 turn_made world scripts i ps qs p q a b c true true so at step is = round_moves world scripts i ps qs p q a b c true so at step is
 turn_made world scripts i ps qs p q a b c false true so at step is = round_moves world scripts i ps qs p q a b c false so at step is
 turn_made world scripts i ps qs p q a b c true false so at step is = round_rests world scripts i ps qs p q a b c true so at step
 turn_made world scripts i ps qs p q a b c false false so at step is = round_rests world scripts i ps qs p q a b c false so at step
 
-pub turn_spends : (world : World) (scripts : List (List Command)) (i : ℕ) (ps qs : List CursorState) (p q : CursorState) (a b c : List Entry) (moved made : Bool)
+pub turn_spends : (world : WorldLists) (scripts : List (List Command)) (i : ℕ) (ps qs : List CursorState) (p q : CursorState) (a b c : List Entry) (moved made : Bool)
     → RoundSoFar world scripts i ps a b moved → At scripts i ps qs p q → IsStep world (numbered i) p q b c made → is_spent_at q ≡ true → AllStand world scripts qs c × IsRound scripts qs a c (Spent i)
 turn_spends world scripts i ps qs p q a b c moved true so at step is = round_spends world scripts i ps qs p q a b c moved so at step is
 turn_spends world scripts i ps qs p q a b c moved false so at step is =
     let never : true ≡ false = sym is ∙ ap is_spent_at step.same_cursor ∙ unspent_at ps 0 i p so.unspent at.stands in
     absurd cc
 
-pub turn_lessens : (world : World) (scripts : List (List Command)) (i : ℕ) (ps qs : List CursorState) (p q : CursorState) (a b c : List Entry) (moved made : Bool) (old : ℕ)
+pub turn_lessens : (world : WorldLists) (scripts : List (List Command)) (i : ℕ) (ps qs : List CursorState) (p q : CursorState) (a b c : List Entry) (moved made : Bool) (old : ℕ)
     → RoundSoFar world scripts i ps a b moved → At scripts i ps qs p q → IsStep world (numbered i) p q b c made → Lessens moved old (work_in ps) → Lessens (moved || made) old (work_in qs)
 turn_lessens world scripts i ps qs p q a b c true true old so at step less = let e = moves_less world scripts i ps qs p q b c so.stand at step in omega (arith, e, less)
 turn_lessens world scripts i ps qs p q a b c false true old so at step less = let e = moves_less world scripts i ps qs p q b c so.stand at step in omega (arith, e, less)
 turn_lessens world scripts i ps qs p q a b c true false old so at step less = let e : work_in qs ≡ work_in ps = ap work_in (same_cursors scripts i ps qs p q at step.same_cursor) in omega (arith, e, less)
 turn_lessens world scripts i ps qs p q a b c false false old so at step less = let e : work_in qs ≡ work_in ps = ap work_in (same_cursors scripts i ps qs p q at step.same_cursor) in omega (arith, e, less)
 
-pub round_begins : (world : World) (scripts : List (List Command)) (ps : List CursorState) (a : List Entry) → AllStand world scripts ps a → first_spent_in 0 ps ≡ None → RoundSoFar world scripts 0 ps a a false
+pub round_begins : (world : WorldLists) (scripts : List (List Command)) (ps : List CursorState) (a : List Entry) → AllStand world scripts ps a → first_spent_in 0 ps ≡ None → RoundSoFar world scripts 0 ps a a false
 round_begins world scripts ps a stand unspent = record { stand = stand; unspent = unspent; turns = refl; idle = record { same = refl; idle = λ c s below is. absurd (omega arith) } }
 
 -- ---- a whole round
 
-pub all_turns : (world : World) (scripts : List (List Command)) (i : ℕ) (ps : List CursorState) (a b : List Entry) (moved : Bool) → i ≡ length scripts → RoundSoFar world scripts i ps a b moved → Turns scripts 0 a b
+pub all_turns : (world : WorldLists) (scripts : List (List Command)) (i : ℕ) (ps : List CursorState) (a b : List Entry) (moved : Bool) → i ≡ length scripts → RoundSoFar world scripts i ps a b moved → Turns scripts 0 a b
 all_turns world scripts i ps a b moved all so = subst (λ t. Turns t 0 a b) (ap (λ i. take i scripts) all ∙ take-length scripts) so.turns
 
-pub all_idle : (world : World) (scripts : List (List Command)) (i : ℕ) (ps : List CursorState) (a b : List Entry) → i ≡ length scripts → RoundSoFar world scripts i ps a b false → IsOver scripts a b
+pub all_idle : (world : WorldLists) (scripts : List (List Command)) (i : ℕ) (ps : List CursorState) (a b : List Entry) → i ≡ length scripts → RoundSoFar world scripts i ps a b false → IsOver scripts a b
 all_idle world scripts i ps a b all so =
     let idle = so.idle in
     record {

@@ -2,7 +2,7 @@
 use Rattle.std.proofs.Common.{◌≡◌, ℕ, zero, suc, ◌+◌, take, cond, true, false, List, [], ◌∷◌, ◌++◌, Some, None, refl, sym, ap, ◌∙◌, inl, inr, append_assoc}
 use Rattle.std.specs.Prelude.{reverse, is_some}
 use Rattle.std.proofs.lemmas.List.{reverse-append, reverse-reverse}
-use Rattle.wx_machine.specs.declared.world.World.{World}
+use Rattle.wx_external.specs.World.{WorldLists}
 use Rattle.wx_machine.specs.declared.entries.Entry.{Entry}
 use Rattle.wx_script.specs.declared.script.Command.{Command}
 use Rattle.wx_script.specs.Ends.{spent_of, numbered}
@@ -16,14 +16,14 @@ use Rattle.wx_run.specs.Run.{BeginsWith, EndsBy}
 use Rattle.wx_run.specs.Round.{AllStand, IsRound, RoundsSoFar, AreRounds}
 use Rattle.wx_run.proofs.EndLemmas.{spent_behind, done_behind, left_behind}
 
-pub rounds_begin : (world : World) (scripts : List (List Command)) (ps : List CursorState) (a : List Entry) → AllStand world scripts ps a → first_spent_in 0 ps ≡ None → RoundsSoFar world scripts ps a a
+pub rounds_begin : (world : WorldLists) (scripts : List (List Command)) (ps : List CursorState) (a : List Entry) → AllStand world scripts ps a → first_spent_in 0 ps ≡ None → RoundsSoFar world scripts ps a a
 rounds_begin world scripts ps a stand unspent = record { stand = stand; unspent = unspent; rounds = λ m last r. (m, r) }
 
-pub rounds_go_on : (world : World) (scripts : List (List Command)) (ps qs : List CursorState) (a b c : List Entry) → RoundsSoFar world scripts ps a b → AllStand world scripts qs c → IsRound scripts qs b c Moved → RoundsSoFar world scripts qs a c
+pub rounds_go_on : (world : WorldLists) (scripts : List (List Command)) (ps qs : List CursorState) (a b c : List Entry) → RoundsSoFar world scripts ps a b → AllStand world scripts qs c → IsRound scripts qs b c Moved → RoundsSoFar world scripts qs a c
 rounds_go_on world scripts ps qs a b c so stand round = record { stand = stand; unspent = round.1; rounds = λ m last r. so.rounds (suc m) last (c, round.0, r) }
 
 -- no endpoint can do anything
-pub rounds_idle : (world : World) (scripts : List (List Command)) (ps qs : List CursorState) (a b c : List Entry) → RoundsSoFar world scripts ps a b → AllStand world scripts qs c → IsRound scripts qs b c Idle
+pub rounds_idle : (world : WorldLists) (scripts : List (List Command)) (ps qs : List CursorState) (a b c : List Entry) → RoundsSoFar world scripts ps a b → AllStand world scripts qs c → IsRound scripts qs b c Idle
     → AreRounds scripts a c (cond (all_left qs) end.Done end.Stalled)
 rounds_idle world scripts ps qs a b c so stand round =
     let rounds = so.rounds 0 c (inl round.0) in
@@ -43,7 +43,7 @@ rounds_idle world scripts ps qs a b c so stand round =
     }
 
 -- an endpoint is spent
-pub rounds_spent : (world : World) (scripts : List (List Command)) (ps qs : List CursorState) (a b c : List Entry) (n : ℕ) → RoundsSoFar world scripts ps a b → AllStand world scripts qs c → IsRound scripts qs b c (Spent n)
+pub rounds_spent : (world : WorldLists) (scripts : List (List Command)) (ps qs : List CursorState) (a b c : List Entry) (n : ℕ) → RoundsSoFar world scripts ps a b → AllStand world scripts qs c → IsRound scripts qs b c (Spent n)
     → AreRounds scripts a c (end.Spent (Endpoint n))
 rounds_spent world scripts ps qs a b c n so stand round =
     let spent : spent_of scripts c ≡ Some n = spent_behind scripts qs c stand.behind ∙ round.1 in
@@ -51,7 +51,7 @@ rounds_spent world scripts ps qs a b c n so stand round =
     record { count = rounds.0; rounds = rounds.1; follows = stand.follows; within_limit = stand.within_limit; ended = spent }
 
 -- an endpoint is spent ahead of the first round
-pub spent_before : (world : World) (scripts : List (List Command)) (ps : List CursorState) (a : List Entry) (n : ℕ) → AllStand world scripts ps a → first_spent_in 0 ps ≡ Some n → AreRounds scripts a a (end.Spent (Endpoint n))
+pub spent_before : (world : WorldLists) (scripts : List (List Command)) (ps : List CursorState) (a : List Entry) (n : ℕ) → AllStand world scripts ps a → first_spent_in 0 ps ≡ Some n → AreRounds scripts a a (end.Spent (Endpoint n))
 spent_before world scripts ps a n stand is =
     let spent : spent_of scripts a ≡ Some n = spent_behind scripts ps a stand.behind ∙ is in
     record { count = 0; rounds = inr (record { spent = ap is_some spent; count = 0; turns = refl }); follows = stand.follows; within_limit = stand.within_limit; ended = spent }

@@ -2,7 +2,7 @@
 use Rattle.std.proofs.Common.{◌≡◌, ◌<◌, ◌⊎◌, inl, inr, true, false, List, ◌∷◌, ◌++◌, refl, sym, ap, ◌∙◌, subst}
 use Rattle.std.specs.Prelude.{nat_le, ◌&&◌, not}
 use Rattle.wx_id.specs.declared.numbers.ContextNo.{ContextNo}
-use Rattle.wx_machine.specs.declared.world.World.{World}
+use Rattle.wx_external.specs.World.{WorldLists}
 use Rattle.wx_machine.specs.declared.entries.Who.TheVariants.{Context as ByContext}
 use Rattle.wx_machine.specs.declared.entries.Call.{Call}
 use Rattle.wx_machine.specs.declared.entries.Answer.{Answer}
@@ -24,16 +24,16 @@ use Rattle.wx_run.specs.Step.{IsReady, Moves, Rests}
 use Rattle.wx_run.proofs.SeenLemmas.{entries_in-seen_by, place_in-seen_by, own_in-seen_by, may_come}
 
 -- the desk of context c over the one journal
-abbrev pub desk_of : ContextNo → World → List Entry → DeskState
+abbrev pub desk_of : ContextNo → WorldLists → List Entry → DeskState
 desk_of c world past = record { context = c; world = world; history = seen_by c past; alone = true }
 
-pub ready_sound : (world : World) (c : ContextNo) (p : CursorState) (past : List Entry) → IsReady world c p past → IsSound (desk_of c world past)
+pub ready_sound : (world : WorldLists) (c : ContextNo) (p : CursorState) (past : List Entry) → IsReady world c p past → IsSound (desk_of c world past)
 ready_sound world c p past ready = record {
   legal = subst (λ j. EachAfter (FollowsMachine world) j) (sym (entries_in-seen_by c past)) ready.legal;
   given = subst (λ j. c.0 < contexts j) (sym (entries_in-seen_by c past)) ready.given;
 }
 
-pub ready_behind : (world : World) (c : ContextNo) (p : CursorState) (past : List Entry) → IsReady world c p past → StandsBehind p (desk_of c world past)
+pub ready_behind : (world : WorldLists) (c : ContextNo) (p : CursorState) (past : List Entry) → IsReady world c p past → StandsBehind p (desk_of c world past)
 ready_behind world c p past ready = record {
   place = ap (λ (p : CursorState). p.place) ready.behind ∙ sym (place_in-seen_by p.script c past);
   made = ap (λ (p : CursorState). p.made) ready.behind ∙ sym (own_in-seen_by c past);
@@ -41,7 +41,7 @@ ready_behind world c p past ready = record {
 }
 
 -- a cursor that stands behind the desk's own entries stands behind its context's
-cursor_is : (c : ContextNo) (world : World) (past : List Entry) (q : CursorState) → StandsBehind q (desk_of c world past) → q ≡ cursor_of q.script c past
+cursor_is : (c : ContextNo) (world : WorldLists) (past : List Entry) (q : CursorState) → StandsBehind q (desk_of c world past) → q ≡ cursor_of q.script c past
 cursor_is c world past q stands = λ i. record {
   script = q.script;
   place = (stands.place ∙ place_in-seen_by q.script c past) i;
@@ -49,22 +49,22 @@ cursor_is c world past q stands = λ i. record {
 }
 
 -- no entry came in
-none_came : (c d : ContextNo) (world other : World) (a b : List Entry) → MakesNone (desk_of c world a) (desk_of d other b) → b ≡ a
+none_came : (c d : ContextNo) (world other : WorldLists) (a b : List Entry) → MakesNone (desk_of c world a) (desk_of d other b) → b ≡ a
 none_came c d world other a b none =
     let seen : seen_by d b ≡ seen_by c a = none.seen ∙ ap (λ o. o ++ seen_by c a) (none.none_came refl) in
     sym (entries_in-seen_by d b) ∙ ap entries_in seen ∙ entries_in-seen_by c a
 
 -- the desk behind an own entry
-abbrev desk_with : ContextNo → World → List Entry → Call → Answer → DeskState
+abbrev desk_with : ContextNo → WorldLists → List Entry → Call → Answer → DeskState
 desk_with c world a call answer = record { context = c; world = world; history = own_entry (desk_of c world a) call answer ∷ seen_by c a; alone = true }
 
-made_one : (c : ContextNo) (world : World) (a : List Entry) (between : DeskState) (call : Call) (answer : Answer) → MakesNone (desk_of c world a) between
+made_one : (c : ContextNo) (world : WorldLists) (a : List Entry) (between : DeskState) (call : Call) (answer : Answer) → MakesNone (desk_of c world a) between
     → record between { history = own_entry (desk_of c world a) call answer ∷ between.history } ≡ desk_with c world a call answer
 made_one c world a between call answer none =
     let seen : between.history ≡ seen_by c a = none.seen ∙ ap (λ o. o ++ seen_by c a) (none.none_came refl) in
     λ i. record { context = none.same_context i; world = none.same_world i; history = own_entry (desk_of c world a) call answer ∷ seen i; alone = none.same_alone i }
 
-pub moved : (c d : ContextNo) (world other : World) (a b : List Entry) (p q : CursorState) → IsReady world c p a
+pub moved : (c d : ContextNo) (world other : WorldLists) (a b : List Entry) (p q : CursorState) → IsReady world c p a
     → turn.Moves p q (desk_of c world a) (desk_of d other b) → StandsBehind q (desk_of d other b) → IsSound (desk_of d other b) → q.script ≡ p.script
     → Moves world c p q a b
 moved c d world other a b p q ready moves stands sound same_script =
@@ -89,10 +89,10 @@ moved c d world other a b p q ready moves stands sound same_script =
       within_limit = subst (λ n. n < entry_limit) (ap (λ (p : CursorState). p.made) ready.behind) moves.within_limit;
     }
 
-next_is : (world : World) (c : ContextNo) (p : CursorState) (past : List Entry) → IsReady world c p past → next_at past p.place ≡ next_of p.script c past
+next_is : (world : WorldLists) (c : ContextNo) (p : CursorState) (past : List Entry) → IsReady world c p past → next_at past p.place ≡ next_of p.script c past
 next_is world c p past ready = ap (λ (p : CursorState). next_at past p.place) ready.behind
 
-waited : (c d : ContextNo) (world other : World) (a b : List Entry) (p q : CursorState) → IsReady world c p a
+waited : (c d : ContextNo) (world other : WorldLists) (a b : List Entry) (p q : CursorState) → IsReady world c p a
     → turn.Rests p (desk_of c world a) (desk_of d other b) → q ≡ p → Rests c p q a b
 waited c d world other a b p q ready rests same_cursor =
     let same : b ≡ a = none_came c d world other a b rests.none_pending.others in
@@ -101,7 +101,7 @@ waited c d world other a b p q ready rests same_cursor =
     let none : has_pending a c ≡ false = subst (λ j. has_pending j c ≡ false) here rests.none_pending.none_pending in
     record { idle = ap (λ n. is_idle a c n) next ∙ ap not none; same_cursor = same_cursor; same = same }
 
-ended : (c d : ContextNo) (world other : World) (a b : List Entry) (p q : CursorState) → IsReady world c p a
+ended : (c d : ContextNo) (world other : WorldLists) (a b : List Entry) (p q : CursorState) → IsReady world c p a
     → turn.HasEnded p (desk_of c world a) (desk_of d other b) → q ≡ p → Rests c p q a b
 ended c d world other a b p q ready is same_cursor =
     let same : b ≡ a = sym (entries_in-seen_by d b) ∙ ap (λ (desk : DeskState). entries_in desk.history) is.same ∙ entries_in-seen_by c a in
@@ -114,7 +114,7 @@ spent_place (within progress acts variables) unended = refl
 spent_place left unended = absurd (unended refl)
 
 -- one that is not spent makes no turn that finds it spent
-unspent : (c d : ContextNo) (world other : World) (a b : List Entry) (p : CursorState) → IsReady world c p a
+unspent : (c d : ContextNo) (world other : WorldLists) (a b : List Entry) (p : CursorState) → IsReady world c p a
     → turn.IsSpent p (desk_of c world a) (desk_of d other b) → ⊥
 unspent c d world other a b p ready is =
     let spent : is_spent_at p ≡ true =
@@ -123,7 +123,7 @@ unspent c d world other a b p ready is =
     cc
 
 -- a turn that made no entry, with memory enough
-pub rested : (c d : ContextNo) (world other : World) (a b : List Entry) (p q : CursorState) (t : Turned) → IsReady world c p a
+pub rested : (c d : ContextNo) (world other : WorldLists) (a b : List Entry) (p q : CursorState) (t : Turned) → IsReady world c p a
     → (t ≡ Waits) ⊎ ((t ≡ Ended) ⊎ (t ≡ Spent)) → turn.IsTurn p q (desk_of c world a) (desk_of d other b) t
     → Rests c p q a b × (d ≡ c) × (other ≡ world)
 rested c d world other a b p q t ready (inl is) came =

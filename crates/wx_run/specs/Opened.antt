@@ -6,8 +6,8 @@ use Rattle.wx_machine.specs.declared.entries.Entry.{Entry}
 use Rattle.wx_machine.specs.Answers.{FollowsMachine}
 use Rattle.wx_machine.specs.Contexts.{contexts}
 use Rattle.wx_machine.specs.Each.{EachAfter}
-use Rattle.wx_machine.specs.declared.world.World.{World}
-use Rattle.wx_machine.specs.declared.contexts.Listens.{Listens}
+use Rattle.wx_external.specs.World.{WorldLists}
+use Rattle.wx_context.specs.declared.contexts.Listens.{Listens}
 use Rattle.wx_script.specs.declared.script.Command.{Command}
 use Rattle.wx_script.specs.declared.scene.SceneEndpoint.{SceneEndpoint}
 use Rattle.wx_script.specs.Ends.{numbered}
@@ -38,7 +38,7 @@ pub record AreIn (n : ℕ) (past : List Entry) : Type 0 where
   pub below : AreBelow n past
 
 -- the first i endpoints have made their first entries, and stand behind them
-pub record OpenedSoFar (world : World) (endpoints : List SceneEndpoint) (i : ℕ) (cursors : List CursorState) (past : List Entry) : Type 0 where
+pub record OpenedSoFar (world : WorldLists) (endpoints : List SceneEndpoint) (i : ℕ) (cursors : List CursorState) (past : List Entry) : Type 0 where
   pub legal : EachAfter (FollowsMachine world) past
   pub begins : past ≡ reverse (opening_from 0 (take i endpoints))
   pub behind : cursors ≡ cursors_from (take i (scripts_at endpoints)) 0 past
@@ -47,11 +47,11 @@ pub record OpenedSoFar (world : World) (endpoints : List SceneEndpoint) (i : ℕ
   pub within_limit : IsWithinLimit past
 
 -- behind its `enter` an endpoint has made its first `listen`, if there is one, and its cursor stands behind it
-abbrev pub IsOpenedBy : World → ContextNo → List Command → Option Listens → CursorState → List Entry → List Entry → Type 0
+abbrev pub IsOpenedBy : WorldLists → ContextNo → List Command → Option Listens → CursorState → List Entry → List Entry → Type 0
 IsOpenedBy world c script None cursor before after = (cursor ≡ cursor_at_start script) × (after ≡ before)
 IsOpenedBy world c script (Some l) cursor before after = (moved : Bool) × IsStep world c (cursor_at_start script) cursor before after moved
 
 -- An endpoint has come in under the next number, and made its first `listen`, if there is one.
-pub record IsOpened (world : World) (endpoint : SceneEndpoint) (cursor : CursorState) (before after : List Entry) : Type 0 where
+pub record IsOpened (world : WorldLists) (endpoint : SceneEndpoint) (cursor : CursorState) (before after : List Entry) : Type 0 where
   pub follows : FollowsMachine world before (entered (numbered (contexts before)) endpoint.context)
   pub opened : IsOpenedBy world (numbered (contexts before)) endpoint.script (first_listen endpoint.script) cursor (entered (numbered (contexts before)) endpoint.context ∷ before) after

@@ -2,8 +2,8 @@
 use Rattle.std.specs.Prelude.{ℕ, ◌+◌, List, [], ◌∷◌, ◌++◌, Option, Some, None, option_to_list}
 use Rattle.std.specs.Option.{option_map}
 use Rattle.wx_id.specs.declared.numbers.ContextNo.{ContextNo}
-use Rattle.wx_machine.specs.declared.contexts.Context.{Context}
-use Rattle.wx_machine.specs.declared.contexts.Listens.{Listens}
+use Rattle.wx_context.specs.declared.contexts.Context.{Context}
+use Rattle.wx_context.specs.declared.contexts.Listens.{Listens}
 use Rattle.wx_machine.specs.declared.entries.Who.TheVariants.{Context as ByContext}
 use Rattle.wx_machine.specs.declared.entries.Call.TheVariants as call
 use Rattle.wx_machine.specs.declared.entries.Answer.TheVariants as answer

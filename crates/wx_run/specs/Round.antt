@@ -1,7 +1,7 @@
 -- What a round over all endpoints does. Every list of entries has the newest first.
 use Rattle.std.specs.Prelude.{◌≡◌, ℕ, ◌+◌, ◌<◌, ◌≤◌, Bool, true, false, length, take, List, slice_get, Some, None}
 use Rattle.wx_id.specs.declared.numbers.ContextNo.{ContextNo}
-use Rattle.wx_machine.specs.declared.world.World.{World}
+use Rattle.wx_external.specs.World.{WorldLists}
 use Rattle.wx_machine.specs.declared.entries.Entry.{Entry}
 use Rattle.wx_machine.specs.Answers.{FollowsMachine}
 use Rattle.wx_machine.specs.Contexts.{contexts}
@@ -27,7 +27,7 @@ abbrev pub IsWithinLimit : List Entry → Type 0
 IsWithinLimit past = (c : ContextNo) → entries_by c past ≤ entry_limit
 
 -- The journal is legal, the endpoints came in, their entries carry out the scripts, no more than they may, and the cursors stand behind them.
-pub record AllStand (world : World) (scripts : List (List Command)) (cursors : List CursorState) (past : List Entry) : Type 0 where
+pub record AllStand (world : WorldLists) (scripts : List (List Command)) (cursors : List CursorState) (past : List Entry) : Type 0 where
   pub legal : EachAfter (FollowsMachine world) past
   pub behind : AreBehind scripts cursors past
   pub follows : Follows scripts past
@@ -45,7 +45,7 @@ IdleUnlessMoved scripts i before after true = Unit {0}
 IdleUnlessMoved scripts i before after false = AreIdleBelow scripts i before after
 
 -- the first i endpoints have made their turns, and none is spent
-pub record RoundSoFar (world : World) (scripts : List (List Command)) (i : ℕ) (cursors : List CursorState) (before after : List Entry) (moved : Bool) : Type 0 where
+pub record RoundSoFar (world : WorldLists) (scripts : List (List Command)) (i : ℕ) (cursors : List CursorState) (before after : List Entry) (moved : Bool) : Type 0 where
   pub stand : AllStand world scripts cursors after
   pub unspent : first_spent_in 0 cursors ≡ None
   pub turns : Turns (take i scripts) 0 before after
@@ -76,7 +76,7 @@ pub record AreRounds (scripts : List (List Command)) (before after : List Entry)
   pub ended : EndsBy scripts after end
 
 -- Rounds led from one past to another so far: whatever rounds follow, they are rounds from the first.
-pub record RoundsSoFar (world : World) (scripts : List (List Command)) (cursors : List CursorState) (before after : List Entry) : Type 0 where
+pub record RoundsSoFar (world : WorldLists) (scripts : List (List Command)) (cursors : List CursorState) (before after : List Entry) : Type 0 where
   pub stand : AllStand world scripts cursors after
   pub unspent : first_spent_in 0 cursors ≡ None
   pub rounds : (m : ℕ) (last : List Entry) → Rounds m scripts after last → (n : ℕ) × Rounds n scripts before last

@@ -1,7 +1,7 @@
 -- What a run of a scene leaves.
 use Rattle.std.specs.Prelude.{◌≡◌, ℕ, ◌≤◌, List, ◌++◌, reverse, Some}
 use Rattle.wx_id.specs.declared.numbers.ContextNo.{ContextNo}
-use Rattle.wx_machine.specs.declared.world.World.{World}
+use Rattle.wx_external.specs.World.{WorldLists}
 use Rattle.wx_machine.specs.declared.entries.Entry.{Entry}
 use Rattle.wx_machine.specs.Answers.{IsLegal}
 use Rattle.wx_script.specs.declared.script.Command.{Command}
@@ -25,7 +25,7 @@ EndsBy scripts past Stalled = IsStalled scripts past
 EndsBy scripts past (Spent (Endpoint n)) = spent_of scripts past ≡ Some n
 
 -- A journal that a run of the scene leaves, and how it ends.
-pub record IsRunOf (world : World) (scene : SceneValue) (journal : List Entry) (end : RunEnd) : Type 0 where
+pub record IsRunOf (world : WorldLists) (scene : SceneValue) (journal : List Entry) (end : RunEnd) : Type 0 where
   -- every answer is the machine's after the entries before it
   pub legal : IsLegal world journal
   -- each entry is an endpoint's, and what its script asks for at its place

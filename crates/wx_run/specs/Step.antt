@@ -1,7 +1,7 @@
 -- What one turn of an endpoint does to the one journal. Every list of entries has the newest first.
 use Rattle.std.specs.Prelude.{◌≡◌, ◌<◌, Bool, true, false, List, ◌∷◌}
 use Rattle.wx_id.specs.declared.numbers.ContextNo.{ContextNo}
-use Rattle.wx_machine.specs.declared.world.World.{World}
+use Rattle.wx_external.specs.World.{WorldLists}
 use Rattle.wx_machine.specs.declared.entries.Who.TheVariants.{Context as ByContext}
 use Rattle.wx_machine.specs.declared.entries.Entry.{Entry}
 use Rattle.wx_machine.specs.Answers.{FollowsMachine}
@@ -15,7 +15,7 @@ use Rattle.wx_endpoint.specs.Turn.{CursorState}
 use Rattle.wx_run.specs.Cursors.{cursor_of, is_spent_at}
 
 -- The journal is legal, context c came in, its entries carry out its script, its cursor stands behind them, and it is not spent.
-pub record IsReady (world : World) (c : ContextNo) (cursor : CursorState) (past : List Entry) : Type 0 where
+pub record IsReady (world : WorldLists) (c : ContextNo) (cursor : CursorState) (past : List Entry) : Type 0 where
   pub legal : EachAfter (FollowsMachine world) past
   pub given : c.0 < contexts past
   pub behind : cursor ≡ cursor_of cursor.script c past
@@ -23,7 +23,7 @@ pub record IsReady (world : World) (c : ContextNo) (cursor : CursorState) (past 
   pub unspent : is_spent_at cursor ≡ false
 
 -- Context c made the entry that its script asks for, with the machine's answer, and its cursor stands behind it.
-pub record Moves (world : World) (c : ContextNo) (cursor moved : CursorState) (before after : List Entry) : Type 0 where
+pub record Moves (world : WorldLists) (c : ContextNo) (cursor moved : CursorState) (before after : List Entry) : Type 0 where
   pub entry : Entry
   pub own : entry.who ≡ ByContext c
   pub asked : MayCome before c (next_of cursor.script c before) entry
@@ -39,6 +39,6 @@ pub record Rests (c : ContextNo) (cursor moved : CursorState) (before after : Li
   pub same : after ≡ before
 
 -- a turn of context c, in which it made an entry or none
-abbrev pub IsStep : World → ContextNo → CursorState → CursorState → List Entry → List Entry → Bool → Type 0
+abbrev pub IsStep : WorldLists → ContextNo → CursorState → CursorState → List Entry → List Entry → Bool → Type 0
 IsStep world c cursor moved before after true = Moves world c cursor moved before after
 IsStep world c cursor moved before after false = Rests c cursor moved before after

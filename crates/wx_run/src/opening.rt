@@ -13,7 +13,7 @@ use std::alloc::Global;
 use wx_broker::Broker;
 use wx_endpoint::{BrokerDesk, Cursor};
 use wx_id::{ContextNo, NoMemory};
-use wx_machine::Context;
+use wx_context::Context;
 use wx_script::{Act, Command, Scene, SceneEndpoint};
 
 /// Whether the first command is a plain `listen`.

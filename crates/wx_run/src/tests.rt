@@ -1,7 +1,7 @@
 use crate::{Outcome, RunEnd, run_scene};
 use std::alloc::Global;
 use std::test::Fail;
-use wx_machine::World;
+use wx_external::World;
 use wx_script::Scene;
 
 /// A scene's text, the text of the journal that its run leaves, and how the run ends.

@@ -2,8 +2,8 @@
 use Rattle.std.proofs.Common.{◌≡◌, ℕ, Bool, true, false, List, [], ◌∷◌, refl, sym, ap, ◌∙◌, nat_eq, Some}
 use Rattle.std.specs.Prelude.{IsTrue, codes, decimal}
 use Rattle.std.specs.List.{list_all, starts_with}
-use Rattle.wx_machine.specs.declared.contexts.Listens.{Listens}
-use Rattle.wx_machine.specs.Texts.{is_printable}
+use Rattle.wx_context.specs.declared.contexts.Listens.{Listens}
+use Rattle.wx_context.specs.Paths.{is_printable}
 use Rattle.wx_script.specs.Words.{is_name, is_count}
 use Rattle.wx_script.specs.Line.{NamedAct, NamedCommand, Line, listen, connect, post, disconnect, take_one, await_connect, await_message, await_close, echo, plain, repeat, comment, extension, page, script, listens_to, ◌>>=◌, name_at, extension_at, page_at, listen_at, port_name_at, connect_at, post_at, disconnect_at, await_with, await_at, echo_at, channel_act_with, act_with, act_at, repeat_at, command_at, declaration_with, declaration_at, line_at}
 use Rattle.wx_script.specs.Spelling.{◌␣◌, flags, to_own, act_spelling, command_spelling, spelling, IsNamedAct, IsNamedCommand, IsLine}

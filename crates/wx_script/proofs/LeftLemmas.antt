@@ -5,7 +5,7 @@ use native.Mathlib.Omega.{arith}
 use Rattle.std.proofs.lemmas.Bool.{eqb-true, eq-eqb}
 use Rattle.wx_id.specs.declared.numbers.ContextNo.{ContextNo}
 use Rattle.wx_id.specs.declared.numbers.ChannelNo.{ChannelNo}
-use Rattle.wx_machine.specs.declared.world.World.{World}
+use Rattle.wx_external.specs.World.{WorldLists}
 use Rattle.wx_machine.specs.declared.entries.Who.{Who}
 use Rattle.wx_machine.specs.declared.entries.Who.TheVariants.{Context as ByContext}
 use Rattle.wx_machine.specs.declared.entries.Call.{Call}
@@ -14,7 +14,7 @@ use Rattle.wx_machine.specs.declared.entries.Answer.{Answer}
 use Rattle.wx_machine.specs.declared.entries.Entry.{Entry}
 use Rattle.wx_machine.specs.Contexts.{is_by, is_leave, is_enter, is_there, context_of, has_left, enters, if_numbered, brought}
 use Rattle.wx_machine.specs.Answers.{FollowsMachine, may_make, answer_after}
-use Rattle.wx_machine.specs.declared.contexts.Context.{Context}
+use Rattle.wx_context.specs.declared.contexts.Context.{Context}
 use Rattle.std.specs.Option.{option_or}
 use Rattle.wx_machine.specs.Each.{EachAfter}
 use Rattle.wx_script.specs.declared.script.Act.{Act}
@@ -138,7 +138,7 @@ either_there : (x y : Option Context) → is_there (option_or x y) ≡ (is_there
 either_there None y = refl
 either_there (Some x) y = refl
 
-came_in : (world : World) (past : List Entry) (c : ContextNo) (x : Call) (answer : Answer) → is_enter x ≡ true → may_make past (ByContext c) x ≡ true
+came_in : (world : WorldLists) (past : List Entry) (c : ContextNo) (x : Call) (answer : Answer) → is_enter x ≡ true → may_make past (ByContext c) x ≡ true
     → answer ≡ answer_after world past (ByContext c) x → is_there (if_numbered c (brought (ByContext c) x answer)) ≡ true
 came_in world past c x answer is may answered = grind arith
 
@@ -167,7 +167,7 @@ agrees_other script c past e before other =
     }
 
 -- the place before was outside, or its context came in
-came_first : (world : World) (script : List Command) (c : ContextNo) (past : List Entry) (e : Entry) (p : Place) → e.who ≡ ByContext c → MayCome past c (next_at past p) e
+came_first : (world : WorldLists) (script : List Command) (c : ContextNo) (past : List Entry) (e : Entry) (p : Place) → e.who ≡ ByContext c → MayCome past c (next_at past p) e
     → FollowsMachine world past e → (is_in p ≡ true → is_there (context_of past c) ≡ true) → is_there (context_of (e ∷ past) c) ≡ true
 came_first world script c past e outside own may follows there =
     let makes : may_make past (ByContext c) e.call ≡ true = subst (λ w. may_make past w e.call ≡ true) own follows.may in
@@ -181,7 +181,7 @@ came_first world script c past e left own may follows there = still_there past e
 is_by-own : (who : Who) (c : ContextNo) → who ≡ ByContext c → is_by who c ≡ true
 is_by-own who c own = ap (λ w. is_by w c) own ∙ eq-eqb c.0 c.0 refl
 
-agrees_own : (world : World) (script : List Command) (c : ContextNo) (past : List Entry) (e : Entry) → Agrees script c past → e.who ≡ ByContext c
+agrees_own : (world : WorldLists) (script : List Command) (c : ContextNo) (past : List Entry) (e : Entry) → Agrees script c past → e.who ≡ ByContext c
     → MayCome past c (next_of script c past) e → FollowsMachine world past e → Agrees script c (e ∷ past)
 unfolding place_of
 agrees_own world script c past e before own may follows =
@@ -208,7 +208,7 @@ asked_of scripts past script c e (ByContext d) asked mine at =
     let of_c : IsAskedOf scripts past c e = subst (λ d. IsAskedOf scripts past d e) same asked in
     (ap ByContext same, subst (λ s. MayCome past c (next_of s c past) e) (same_script scripts c.0 of_c.script script of_c.is_endpoint at) of_c.asked)
 
-agrees : (world : World) (scripts : List (List Command)) (script : List Command) (c : ContextNo) (past : List Entry)
+agrees : (world : WorldLists) (scripts : List (List Command)) (script : List Command) (c : ContextNo) (past : List Entry)
     → EachAfter (FollowsMachine world) past → EachAfter (FollowsScript scripts) past → slice_get scripts c.0 ≡ Some script → Agrees script c past
 unfolding place_of
 agrees world scripts script c [] legal follows at = record { entered = λ is. contra false _ refl is; same = refl }
@@ -219,6 +219,6 @@ agrees world scripts script c (e ∷ past) legal follows at =
       | false ↦ λ is. agrees_other script c past e before is
     ] refl
 
-pub ended_left : (world : World) (scripts : List (List Command)) (script : List Command) (c : ContextNo) (past : List Entry)
+pub ended_left : (world : WorldLists) (scripts : List (List Command)) (script : List Command) (c : ContextNo) (past : List Entry)
     → EachAfter (FollowsMachine world) past → EachAfter (FollowsScript scripts) past → slice_get scripts c.0 ≡ Some script → has_ended script c past ≡ has_left past c
 ended_left world scripts script c past legal follows at = end_is_left past (place_of script c past) ∙ (agrees world scripts script c past legal follows at).same

@@ -6,7 +6,7 @@ use Rattle.std.specs.List.{starts_with}
 use Rattle.std.proofs.lemmas.Option.{cond_some}
 use Rattle.std.proofs.lemmas.List.{take-append-drop}
 use Rattle.std.proofs.lemmas.Slice.Eq.{bytes_eq-Decides}
-use Rattle.wx_machine.specs.Texts.{is_printable}
+use Rattle.wx_context.specs.Paths.{is_printable}
 use Rattle.wx_script.specs.Words.{word, rest, is_name, is_word, is_comment}
 use Rattle.wx_script.specs.Line.{NamedAct, NamedCommand, Line, listen, connect, take_one, echo, plain, repeat, comment, script, listens_to, name_at, count_at, extension_at, page_at, listen_at, port_name_at, connect_at, post_at, disconnect_at, await_with, await_at, echo_at, channel_act_with, act_with, act_at, repeat_at, command_at, declaration_with, declaration_at, line_at}
 use Rattle.wx_script.specs.Spelling.{◌␣◌, to_own, act_spelling, command_spelling, spelling, IsNamedAct, IsNamedCommand, IsLine}

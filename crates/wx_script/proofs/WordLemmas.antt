@@ -10,7 +10,7 @@ use Rattle.std.proofs.lemmas.Str.{IsUtf8-from_ascii}
 use Rattle.std.proofs.lemmas.Str.Ascii.{IsAscii-from_all}
 use Rattle.std.proofs.lemmas.Bool.Decides.{nat_tests}
 use Rattle.std.proofs.lemmas.List.Sums.{AllPass-from_list_all}
-use Rattle.wx_machine.specs.Texts.{is_printable, is_page_path}
+use Rattle.wx_context.specs.Paths.{is_printable, is_page_path}
 use Rattle.wx_script.specs.Words.{word, rest, is_name, is_word, is_identifier, is_name_byte, is_letter}
 
 abbrev pub is_no_space : ℕ → Bool

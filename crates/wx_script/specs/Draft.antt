@@ -1,8 +1,8 @@
 -- The scene so far, and what one more line makes of it.
 use Rattle.std.specs.Prelude.{ℕ, not, List, [], ◌∷◌, ◌++◌, length, Option, Some, None, Result, Ok, Err, ◌==◌, nat_le, if◌then◌else◌}
 use Rattle.wx_id.specs.Ids.{is_extension_id}
-use Rattle.wx_machine.specs.declared.contexts.Context.TheVariants.{Page}
-use Rattle.wx_machine.specs.declared.contexts.Target.TheVariants.{Own}
+use Rattle.wx_context.specs.declared.contexts.Context.TheVariants.{Page}
+use Rattle.wx_context.specs.declared.contexts.Target.TheVariants.{Own}
 use Rattle.wx_script.specs.declared.script.Act.{Act}
 use Rattle.wx_script.specs.declared.script.Act.TheVariants as act
 use Rattle.wx_script.specs.declared.script.Command.{Command}

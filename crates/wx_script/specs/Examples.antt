@@ -1,7 +1,7 @@
 -- Worked scenes, and faults with their lines.
 use Rattle.std.specs.Prelude.{◌≡◌, ℕ, List, [], ◌∷◌, ◌++◌, map, Result, Ok, Err, Some, true, codes}
-use Rattle.wx_machine.specs.declared.contexts.Context.TheVariants.{Page}
-use Rattle.wx_machine.specs.declared.contexts.Target.TheVariants.{Own}
+use Rattle.wx_context.specs.declared.contexts.Context.TheVariants.{Page}
+use Rattle.wx_context.specs.declared.contexts.Target.TheVariants.{Own}
 use Rattle.wx_script.specs.declared.script.Act.{Act}
 use Rattle.wx_script.specs.declared.script.Act.TheVariants as act
 use Rattle.wx_script.specs.declared.script.Command.{Command}

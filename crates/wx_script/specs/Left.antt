@@ -1,7 +1,7 @@
 -- An endpoint has ended exactly where its context has left.
 use Rattle.std.specs.Prelude.{◌≡◌, List, slice_get, Some}
 use Rattle.wx_id.specs.declared.numbers.ContextNo.{ContextNo}
-use Rattle.wx_machine.specs.declared.world.World.{World}
+use Rattle.wx_external.specs.World.{WorldLists}
 use Rattle.wx_machine.specs.declared.entries.Entry.{Entry}
 use Rattle.wx_machine.specs.Contexts.{has_left}
 use Rattle.wx_machine.specs.Answers.{FollowsMachine}
@@ -13,6 +13,6 @@ use Rattle.wx_script.specs.Ends.{has_ended}
 -- behind legal entries that follow the scripts
 abbrev pub EndsByLeaving : Type 0
 EndsByLeaving =
-    (world : World) (scripts : List (List Command)) (script : List Command) (c : ContextNo) (past : List Entry)
+    (world : WorldLists) (scripts : List (List Command)) (script : List Command) (c : ContextNo) (past : List Entry)
     → EachAfter (FollowsMachine world) past → EachAfter (FollowsScript scripts) past → slice_get scripts c.0 ≡ Some script
     → has_ended script c past ≡ has_left past c

@@ -3,8 +3,8 @@ use Rattle.std.specs.Prelude.{ℕ, Bool, true, false, ◌&&◌, List, [], Option
 use Rattle.std.specs.Str.{bytes_eq}
 use Rattle.std.specs.Str.Parse.{digits_value}
 use Rattle.std.specs.List.{starts_with}
-use Rattle.wx_machine.specs.declared.contexts.Listens.{Listens}
-use Rattle.wx_machine.specs.Texts.{is_page_path}
+use Rattle.wx_context.specs.declared.contexts.Listens.{Listens}
+use Rattle.wx_context.specs.Paths.{is_page_path}
 use Rattle.wx_script.specs.Words.{word, rest, is_name, is_word, is_number, is_count, is_given, is_comment}
 
 -- what a command asks for, with the names of its variables

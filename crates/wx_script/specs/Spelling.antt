@@ -1,6 +1,6 @@
 -- The one spelling of each line.
 use Rattle.std.specs.Prelude.{◌≡◌, ℕ, Bool, List, [], ◌∷◌, ◌++◌, IsTrue, codes, decimal, if◌then◌else◌}
-use Rattle.wx_machine.specs.Texts.{is_printable, is_page_path}
+use Rattle.wx_context.specs.Paths.{is_printable, is_page_path}
 use Rattle.wx_script.specs.Words.{is_name, is_word, is_count, is_given, is_comment}
 use Rattle.wx_script.specs.Line.{NamedAct, NamedCommand, Line, listen, connect, post, disconnect, take_one, await_connect, await_message, await_close, echo, plain, repeat, comment, extension, page, script, listens_to}
 

@@ -2,7 +2,7 @@
 use Rattle.std.specs.Prelude.{ℕ, Bool, true, false, ◌&&◌, ◌||◌, not, List, [], ◌∷◌, length, Option, Some, None, ◌==◌, nat_lt, nat_le, codes, if◌then◌else◌}
 use Rattle.std.specs.List.{list_all}
 use Rattle.std.specs.Str.{bytes_eq}
-use Rattle.wx_machine.specs.Texts.{is_printable}
+use Rattle.wx_context.specs.Paths.{is_printable}
 
 -- the bytes up to the first space
 abbrev pub word : List ℕ → List ℕ

@@ -1,8 +1,8 @@
 ghost use Rattle.std.specs.Prelude.{◌≡◌, MatchResult, Some, None, [], OnOk, IfSome, ◌<◌, ◌^◌, length, IsTrue};
-ghost use Rattle.wx_machine.specs.Texts.{is_page_path};
+ghost use Rattle.wx_context.specs.Paths.{is_page_path};
 ghost use Rattle.wx_json.specs.Test.{is_json_text};
 ghost use Rattle.wx_script.specs.Adding.{so_far, Makes, MakesAct, IsUnbound, IsJsonFault, IsIndexed};
-ghost use Rattle.wx_machine.specs.declared.contexts.Context.TheVariants as context;
+ghost use Rattle.wx_context.specs.declared.contexts.Context.TheVariants as context;
 ghost use Rattle.wx_script.specs.Draft as rules;
 ghost use Rattle.wx_script.specs.Draft.{fresh, extension_added, page_added, act_of, named_act, command_by, with_command, variables_after, command_added, line_added};
 ghost use Rattle.wx_script.specs.Names.{has_extension, has_endpoint, id_under, place_in};
@@ -15,7 +15,8 @@ use crate::scene::{SceneEndpoint, SceneExtension, SceneKind};
 use crate::script::{Act, Command, Script, Var};
 use std::alloc::{AllocError, AllocFailed, Global};
 use wx_id::{ExtensionId, NoMemory, Utf8Text};
-use wx_machine::{Context, JsonText, PagePath, Target};
+use wx_context::{Context, PagePath, Target};
+use wx_machine::JsonText;
 
 /// The scene so far, and the variables that the last script binds. Beside the lists stand the names and ids of
 /// what is in them, by which it is found.

@@ -7,7 +7,7 @@ ghost use Rattle.wx_script.specs.View.{act_view, command_view, line_view};
 use crate::word::{
     count, is_comment, is_given, is_word, name, name_and_rest, path, port_name, split_word,
 };
-use wx_machine::Listens;
+use wx_context::Listens;
 
 /// What a command asks for, with the name of its variable.
 #[derive(Clone, Copy)]

@@ -4,7 +4,7 @@ ghost use Rattle.wx_script.specs.Sound.{AreSound};
 use crate::script::Script;
 use std::marker::Model;
 use wx_id::{ExtensionId, Utf8Text};
-use wx_machine::Context;
+use wx_context::Context;
 
 /// An extension that a scene declares.
 #[derive(Debug, Drop)]

@@ -3,7 +3,8 @@ ghost use Rattle.std.specs.Prelude.{◌≡◌, [], ◌∷◌, ◌++◌, length, 
 use std::alloc::{AllocError, Global};
 use std::marker::Model;
 use wx_id::Utf8Text;
-use wx_machine::{JsonText, Listens, Target};
+use wx_context::{Listens, Target};
+use wx_machine::JsonText;
 
 /// A variable of a script, numbered from 0 in the order of first binding.
 #[derive(Clone, Copy, Debug, PartialEq, Eq)]

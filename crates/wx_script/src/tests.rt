@@ -1,7 +1,7 @@
 use crate::{Act, Command, Scene, SceneFault, SceneKind, SceneReadFault};
 use std::alloc::{AllocError, Global};
 use std::test::Fail;
-use wx_machine::Context;
+use wx_context::Context;
 
 /// How a scene with these lines behind its head line is read.
 fn read_behind_head(alloc: Global, lines: &str) -> Result<Scene, SceneReadFault> {

@@ -1,11 +1,11 @@
 ghost use Rattle.std.specs.Prelude.{◌≡◌};
 ghost use Rattle.std.specs.List.{list_all};
 ghost use Rattle.std.specs.Option.{option_map};
-ghost use Rattle.wx_machine.specs.Texts as texts;
+ghost use Rattle.wx_context.specs.Paths as texts;
 ghost use Rattle.wx_script.specs.Words as words;
 ghost use Rattle.wx_script.specs.Line as forms;
 
-use wx_machine::{are_printable, is_page_path};
+use wx_context::{are_printable, is_page_path};
 
 /// The bytes up to the first space, and what stands behind that space.
 pub(crate) fn split_word(text: &[u8]) -> (&[u8], Option<&[u8]>)

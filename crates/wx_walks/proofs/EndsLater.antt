@@ -4,9 +4,9 @@ use Rattle.std.specs.Prelude.{Option, Some, None, ◌||◌, ◌&&◌, is_some, o
 use Rattle.std.specs.Option.{option_or}
 use Rattle.std.proofs.lemmas.Bool.Decides.{nat_tests, Decides-eqb}
 use Rattle.wx_id.specs.declared.numbers.ContextNo.{ContextNo}
-use Rattle.wx_machine.specs.declared.contexts.Context.{Context}
-use Rattle.wx_machine.specs.declared.contexts.Target.{Target}
-use Rattle.wx_machine.specs.declared.contexts.Sort.{Sort}
+use Rattle.wx_context.specs.declared.contexts.Context.{Context}
+use Rattle.wx_context.specs.declared.contexts.Target.{Target}
+use Rattle.wx_machine.specs.declared.sorts.Sort.{Sort}
 use Rattle.wx_machine.specs.declared.entries.Entry.{Entry}
 use Rattle.wx_machine.specs.Contexts.{same_context, is_there, if_numbered, enters, context_of, numbers, numbers_of, has_left, names_if, listens_of, is_receiver, receivers_of}
 use Rattle.wx_machine.specs.Channels.{Ends, opens, channels, channel, end_in, is_among}

@@ -2,10 +2,12 @@
 ghost use Rattle.std.specs.Prelude.{◌≡◌, ◌&&◌, bytes_eq, filter, true, reverse, option_copied};
 ghost use Rattle.std.specs.Option.{option_or};
 ghost use Rattle.std.specs.List.{list_any};
-ghost use Rattle.wx_machine.specs.Contexts.{is_by, is_there, if_numbered, enters, context_of, has_left, is_live, is_leave, contexts, listens_of, listens_after, extension_of, is_extension, hears, names, names_if, is_receiver, receivers_of, numbers_of};
+ghost use Rattle.wx_machine.specs.Contexts.{is_by, is_there, if_numbered, enters, context_of, has_left, is_live, is_leave, contexts, listens_of, listens_after, extension_of, is_extension, is_page_of, is_frame, is_script_in, names, is_external, hears, reaches, reaches_from, is_receiver, receivers_of, numbers_of};
 
-use wx_id::{ContextNo, ExtensionId};
-use wx_machine::{Answer, Call, Context, Entry, Listens, Sort, Target, Who};
+use wx_external::meant;
+use wx_id::{ContextNo, ExtensionId, FrameId, TabId};
+use wx_context::{Context, Listens, Target};
+use wx_machine::{Answer, Call, Entry, Sort, Who};
 
 /// The entry brings context c in.
 pub fn brings(e: &Entry, c: ContextNo) -> bool
@@ -156,6 +158,8 @@ pub fn extension_of(x: &Context) -> Option<&ExtensionId>
 {
     match x {
         Context::Page { ext, path: _ } => Some(ext),
+        Context::Content { ext, .. } => Some(ext),
+        Context::Web { .. } => None,
     }
 }
 
@@ -174,36 +178,87 @@ fn is_extension(own: Option<&ExtensionId>, id: &ExtensionId) -> bool
     }
 }
 
-/// Whether the target of a caller from that extension names the other context.
+fn is_page_of(own: Option<&ExtensionId>, y: &Context) -> bool
+    ensures { result ≡ is_page_of (option_copied own.entry) y.now }
+{
+    match y {
+        Context::Page { ext, path: _ } => is_extension(own, ext),
+        _ => false,
+    }
+}
+
+fn is_frame(given: Option<FrameId>, frame: FrameId) -> bool
+    ensures { result ≡ is_frame given frame }
+{
+    match given {
+        Some(f) => f == frame,
+        None => true,
+    }
+}
+
+fn is_script_in(
+    own: Option<&ExtensionId>,
+    t: TabId,
+    f: Option<FrameId>,
+    y: &Context,
+) -> bool
+    ensures { result ≡ is_script_in (option_copied own.entry) t f y.now }
+{
+    match y {
+        Context::Content { ext, tab, frame, url: _ } => {
+            is_extension(own, ext) && t == *tab && is_frame(f, *frame)
+        }
+        _ => false,
+    }
+}
+
+/// Whether a target of a caller from that extension names the context.
 pub fn names(own: Option<&ExtensionId>, target: Target, y: &Context) -> bool
     ensures { result ≡ names (option_copied own.entry) target y.now }
 {
-    match (target, y) {
-        (Target::Own, Context::Page { ext, path: _ }) => is_extension(own, ext),
+    match target {
+        Target::Own => is_page_of(own, y),
+        Target::Other(id) => is_page_of(Some(&id), y),
+        Target::Tab(t, f) => is_script_in(own, t, f, y),
     }
 }
 
-/// Whether one who listens so hears that sort.
-pub fn hears(sort: Sort, l: Listens) -> bool
-    ensures { result ≡ hears sort l }
+/// Whether what is for the target comes to it from outside.
+fn is_external(target: Target) -> bool
+    ensures { result ≡ is_external target }
 {
-    match sort {
-        Sort::Connection => l.connect,
-        Sort::Message => l.message,
+    matches!(target, Target::Other(_))
+}
+
+/// Whether one who listens so hears that sort, from its own extension or from outside.
+pub fn hears(sort: Sort, external: bool, l: Listens) -> bool
+    ensures { result ≡ hears sort external l }
+{
+    match (sort, external) {
+        (Sort::Connection, true) => l.external_connect,
+        (Sort::Connection, false) => l.connect,
+        (Sort::Message, true) => l.external_message,
+        (Sort::Message, false) => l.message,
     }
 }
 
-fn names_if(
+fn reaches(own: Option<&ExtensionId>, target: Target, sort: Sort, y: &Context, l: Listens) -> bool
+    ensures { result ≡ reaches (option_copied own.entry) target sort y.now l }
+{
+    names(own, target, y) && hears(sort, is_external(target), l)
+}
+
+fn reaches_from(
     x: Option<&Context>,
     target: Target,
     sort: Sort,
     y: Option<&Context>,
     l: Listens,
 ) -> bool
-    ensures { result ≡ names_if (option_copied x.entry) target sort (option_copied y.entry) l }
+    ensures { result ≡ reaches_from (option_copied x.entry) target sort (option_copied y.entry) l }
 {
     match (x, y) {
-        (Some(x), Some(y)) => names(extension_of(x), target, y) && hears(sort, l),
+        (Some(x), Some(y)) => reaches(extension_of(x), meant(x, &target), sort, y, l),
         _ => false,
     }
 }
@@ -220,7 +275,7 @@ pub fn is_receiver(
 {
     d != c
         && is_live(entries, d)
-        && names_if(
+        && reaches_from(
             context_of(entries, c),
             target,
             sort,
