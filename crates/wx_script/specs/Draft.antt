@@ -9,6 +9,7 @@ use Rattle.wx_script.specs.declared.script.Command.{Command}
 use Rattle.wx_script.specs.declared.script.Command.TheVariants.{Plain, Repeat}
 use Rattle.wx_script.specs.declared.script.Var.{Var}
 use Rattle.wx_script.specs.declared.scene.SceneExtension.{SceneExtension}
+use Rattle.wx_script.specs.declared.scene.SceneFile.{SceneFile}
 use Rattle.wx_script.specs.declared.scene.SceneEndpoint.{SceneEndpoint}
 use Rattle.wx_script.specs.declared.scene.SceneKind.{SceneKind}
 use Rattle.wx_script.specs.declared.scene.SceneKind.TheVariants as kind
@@ -18,13 +19,17 @@ use Rattle.wx_script.specs.Line.{NamedAct, NamedCommand, Line, listen, connect, 
 
 pub record Draft : Type 0 where
   pub extensions : List SceneExtension
+  -- the files of the host manifests
+  pub hosts : List (List ℕ)
+  -- the files that lines name
+  pub files : List SceneFile
   pub endpoints : List SceneEndpoint
   -- the variables that the last script binds, in the order of their first binding
   pub variables : List (List ℕ)
 
 -- nothing is declared
 abbrev pub fresh : Draft
-fresh = record { extensions = []; endpoints = []; variables = [] }
+fresh = record { extensions = []; hosts = []; files = []; endpoints = []; variables = [] }
 
 -- ---- declarations: each test in its order
 
@@ -32,7 +37,7 @@ abbrev pub extension_added : Draft → List ℕ → List ℕ → Result Draft Sc
 extension_added d name id =
     if not (is_extension_id id) then Err kind.Id
     else if has_extension name id d.extensions then Err kind.Repeated
-    else Ok (record d { extensions = d.extensions ++ record { name = name; id = id } ∷ [] })
+    else Ok (record d { extensions = d.extensions ++ record { name = name; id = id; file = None } ∷ [] })
 
 abbrev pub page_with : Draft → List ℕ → Option (List ℕ) → List ℕ → Result Draft SceneKind
 page_with d name None path = Err kind.Unknown

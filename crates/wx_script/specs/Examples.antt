@@ -1,5 +1,5 @@
 -- Worked scenes, and faults with their lines.
-use Rattle.std.specs.Prelude.{◌≡◌, ℕ, List, [], ◌∷◌, ◌++◌, map, Result, Ok, Err, Some, true, codes}
+use Rattle.std.specs.Prelude.{◌≡◌, ℕ, List, [], ◌∷◌, ◌++◌, map, Result, Ok, Err, Some, None, true, codes}
 use Rattle.wx_context.specs.declared.contexts.Context.TheVariants.{Page}
 use Rattle.wx_context.specs.declared.contexts.Target.TheVariants.{Own}
 use Rattle.wx_script.specs.declared.script.Act.{Act}
@@ -25,7 +25,7 @@ abbrev pub scene_with : List (List ℕ) → Result SceneValue SceneFault
 scene_with lines = scene_of (codes "wx scene 1 chrome" ++ 10 ∷ with_lines lines)
 
 abbrev pub IsScene : List (List ℕ) → List SceneExtension → List SceneEndpoint → Type 0
-IsScene lines extensions endpoints = scene_with lines ≡ Ok (record { extensions = extensions; endpoints = endpoints })
+IsScene lines extensions endpoints = scene_with lines ≡ Ok (record { extensions = extensions; hosts = []; files = []; endpoints = endpoints })
 
 -- line n of the scene, the head line being line 1, is the first faulty one
 abbrev pub HasFault : List (List ℕ) → ℕ → SceneKind → Type 0
@@ -45,7 +45,7 @@ two_pages =
     ∷ codes "page p x /p" ∷ codes "  listen connect" ∷ codes "  take" ∷ codes "  take" ∷ codes "  take" ∷ []
 
 abbrev pub x_declared : List SceneExtension
-x_declared = record { name = codes "x"; id = id_a } ∷ []
+x_declared = record { name = codes "x"; id = id_a; file = None } ∷ []
 
 abbrev pub page_of_x : List ℕ → List ℕ → List Command → SceneEndpoint
 page_of_x name path script = record { name = name; context = Page id_a path; script = script }

@@ -3,6 +3,7 @@ use Rattle.std.specs.Prelude.{ℕ, ◌-◌, Bool, true, false, List, [], ◌∷�
 use Rattle.std.specs.Option.{option_map, option_and_then}
 use Rattle.wx_id.specs.declared.numbers.ContextNo.{ContextNo}
 use Rattle.wx_id.specs.declared.numbers.ChannelNo.{ChannelNo}
+use Rattle.wx_id.specs.declared.numbers.RequestNo.{RequestNo}
 use Rattle.wx_id.specs.declared.numbers.EntryNo.{EntryNo}
 use Rattle.wx_id.specs.declared.events.Event.{Event}
 use Rattle.wx_id.specs.declared.events.EventKind.{EventKind}
@@ -10,7 +11,7 @@ use Rattle.wx_id.specs.declared.events.EventKind.TheVariants as kind
 use Rattle.wx_machine.specs.declared.entries.Call.{Call}
 use Rattle.wx_machine.specs.declared.entries.Call.TheVariants as call
 use Rattle.wx_machine.specs.declared.entries.Answer.{Answer}
-use Rattle.wx_machine.specs.declared.entries.Answer.TheVariants.{Channel as OnChannel, Event as Told}
+use Rattle.wx_machine.specs.declared.entries.Answer.TheVariants.{Channel as OnChannel, Request as OnRequest, Event as Told}
 use Rattle.wx_machine.specs.declared.entries.Entry.{Entry}
 use Rattle.wx_machine.specs.Contexts.{is_by}
 use Rattle.wx_machine.specs.Carried.{text_of}
@@ -18,24 +19,38 @@ use Rattle.wx_script.specs.declared.script.Act.{Act}
 use Rattle.wx_script.specs.declared.script.Act.TheVariants as act
 use Rattle.wx_script.specs.declared.script.Command.{Command}
 use Rattle.wx_script.specs.declared.script.Var.{Var}
+use Rattle.wx_script.specs.declared.script.Received.{Received}
+use Rattle.wx_script.specs.declared.script.Heard.{Heard}
+use Rattle.wx_script.specs.declared.script.Heard.TheVariants as heard
 use Rattle.wx_script.specs.Acts.{acts_of}
 
 -- ---- variables
 
--- the channel to which each variable is set, if it is
+-- what each variable is set to, if it is: a channel, a request that was asked, or a request that came
 pub record Variables : Type 0 where
   pub channels : List (Option ChannelNo)
+  pub asked : List (Option RequestNo)
+  pub received : List (Option Received)
 
-abbrev pub channel_of : Variables → Var → Option ChannelNo
-channel_of variables v = option_and_then (λ k. k) (slice_get variables.channels v.0)
+-- what a variable of one sort is set to
+abbrev pub value_of : {A : Type 0} → List (Option A) → Var → Option A
+value_of values v = option_and_then (λ x. x) (slice_get values v.0)
 
 -- a variable set to a channel, or cleared
 abbrev pub set_channel : Variables → Var → Option ChannelNo → Variables
 set_channel variables v k = record variables { channels = slice_set variables.channels v.0 k }
 
+-- a variable set to a request that was asked, or cleared
+abbrev pub set_asked : Variables → Var → Option RequestNo → Variables
+set_asked variables v r = record variables { asked = slice_set variables.asked v.0 r }
+
+-- a variable set to a request that came
+abbrev pub set_received : Variables → Var → Option Received → Variables
+set_received variables v r = record variables { received = slice_set variables.received v.0 r }
+
 -- no variable is set
 abbrev pub unset : ℕ → Variables
-unset n = record { channels = replicate n None }
+unset n = record { channels = replicate n None; asked = replicate n None; received = replicate n None }
 
 -- ---- what comes next
 
@@ -50,17 +65,32 @@ pub data Next : Type 0 where
   -- nothing, behind its `leave`
   ends : Next
 
+-- what an act begins with
+pub data Beginning : Type 0 where
+  -- this call
+  calls : Call → Beginning
+  -- a `take` as soon as an event is pending
+  awaits : Beginning
+  -- an answer to what came, by the text that this entry carries
+  answers : Heard → EntryNo → Beginning
+
 -- what an act begins with, unless it uses a variable that is not set
-abbrev pub begins_with : Variables → Act → Option Next
-begins_with variables (act.Listen l) = Some (asks (call.Listen l))
-begins_with variables (act.Connect v target name) = Some (asks (call.Connect target name))
-begins_with variables (act.Post v text) = option_map (λ k. asks (call.Post k text)) (channel_of variables v)
-begins_with variables (act.Disconnect v) = option_map (λ k. asks (call.Disconnect k)) (channel_of variables v)
-begins_with variables act.Take = Some (asks call.Take)
-begins_with variables (act.AwaitConnect v) = Some waits
-begins_with variables (act.AwaitMessage v) = option_map (λ k. waits) (channel_of variables v)
-begins_with variables (act.AwaitClose v) = option_map (λ k. waits) (channel_of variables v)
-begins_with variables (act.Echo n) = Some waits
+abbrev pub begins_with : Variables → Act → Option Beginning
+begins_with variables (act.Listen l) = Some (calls (call.Listen l))
+begins_with variables (act.Connect v target name) = Some (calls (call.Connect target name))
+begins_with variables (act.Post v text) = option_map (λ k. calls (call.Post k text)) (value_of variables.channels v)
+begins_with variables (act.Disconnect v) = option_map (λ k. calls (call.Disconnect k)) (value_of variables.channels v)
+begins_with variables (act.Send v target text) = Some (calls (call.Send target text))
+begins_with variables (act.Reply v text) = option_map (λ (r : Received). calls (call.Reply r.request text)) (value_of variables.received v)
+begins_with variables (act.ReplySame v) = option_map (λ (r : Received). answers (heard.Request r.request) r.entry) (value_of variables.received v)
+begins_with variables (act.Decline v) = option_map (λ (r : Received). calls (call.Decline r.request)) (value_of variables.received v)
+begins_with variables act.Take = Some (calls call.Take)
+begins_with variables (act.AwaitConnect v) = Some awaits
+begins_with variables (act.AwaitMessage v) = option_map (λ k. awaits) (value_of variables.channels v)
+begins_with variables (act.AwaitRequest v) = Some awaits
+begins_with variables (act.AwaitReply v) = option_map (λ r. awaits) (value_of variables.asked v)
+begins_with variables (act.AwaitClose v) = option_map (λ k. awaits) (value_of variables.channels v)
+begins_with variables (act.Echo n) = Some awaits
 
 -- the acts without those in front that are passed over
 abbrev pub unskipped : Variables → List Act → List Act
@@ -73,8 +103,8 @@ pub data Progress : Type 0 where
   unbegun : Progress
   -- an echo, with so many answers to come
   echoing : ℕ → Progress
-  -- an echo, with so many answers to come, the first to a message on this channel, whose text this entry carries
-  answering : ℕ → ChannelNo → EntryNo → Progress
+  -- an echo, with so many answers to come, the first to this, whose text this entry carries
+  answering : ℕ → Heard → EntryNo → Progress
 
 -- where an endpoint stands
 pub data Place : Type 0 where
@@ -85,26 +115,33 @@ pub data Place : Type 0 where
   -- it has made its `leave`
   left : Place
 
-abbrev pub or_ends : Option Next → Next
-or_ends (Some next) = next
-or_ends None = ends
+-- what came is answered by its own text (nothing that came without one stands in a legal journal)
+abbrev pub asks_answer : Heard → Option (List ℕ) → Next
+asks_answer (heard.Message k) (Some text) = asks (call.Post k text)
+asks_answer (heard.Request r) (Some text) = asks (call.Reply r text)
+asks_answer came None = waits
+
+-- what comes next of what begins so, behind these entries
+abbrev pub next_from : List Entry → Beginning → Next
+next_from past (calls x) = asks x
+next_from past awaits = waits
+next_from past (answers came e) = asks_answer came (text_of past e)
+
+abbrev pub next_or_end : List Entry → Option Beginning → Next
+next_or_end past None = ends
+next_or_end past (Some beginning) = next_from past beginning
 
 -- what the first act begins with; behind the last act comes a `leave`
-abbrev pub asks_first : Variables → List Act → Next
-asks_first variables [] = asks call.Leave
-asks_first variables (a ∷ acts) = or_ends (begins_with variables a)
-
--- a message is answered by its own text (a message without one stands in no legal journal)
-abbrev pub asks_answer : ChannelNo → Option (List ℕ) → Next
-asks_answer k (Some text) = asks (call.Post k text)
-asks_answer k None = waits
+abbrev pub asks_first : List Entry → Variables → List Act → Next
+asks_first past variables [] = asks call.Leave
+asks_first past variables (a ∷ acts) = next_or_end past (begins_with variables a)
 
 -- what comes next at a place, behind these entries
 abbrev pub next_at : List Entry → Place → Next
 next_at past outside = enters
-next_at past (within unbegun acts variables) = asks_first variables (unskipped variables acts)
+next_at past (within unbegun acts variables) = asks_first past variables (unskipped variables acts)
 next_at past (within (echoing n) acts variables) = waits
-next_at past (within (answering n k e) acts variables) = asks_answer k (text_of past e)
+next_at past (within (answering n came e) acts variables) = asks_answer came (text_of past e)
 next_at past left = ends
 
 -- ---- the place behind an entry
@@ -113,6 +150,11 @@ next_at past left = ends
 abbrev pub channel_in : Answer → Option ChannelNo
 channel_in (OnChannel k) = Some k
 channel_in _ = None
+
+-- the request that an answer gives
+abbrev pub request_in : Answer → Option RequestNo
+request_in (OnRequest r) = Some r
+request_in _ = None
 
 -- the event that an answer gives
 abbrev pub event_in : Answer → Option Event
@@ -123,33 +165,42 @@ abbrev pub is_channel : Option ChannelNo → ChannelNo → Bool
 is_channel None k = false
 is_channel (Some j) k = j.0 == k.0
 
+abbrev pub is_request : Option RequestNo → RequestNo → Bool
+is_request None r = false
+is_request (Some s) r = s.0 == r.0
+
 -- whether an await takes no further than this event
 abbrev pub is_wanted : Variables → Act → EventKind → Bool
 is_wanted variables (act.AwaitConnect v) (kind.Connected k) = true
-is_wanted variables (act.AwaitMessage v) (kind.Message k) = is_channel (channel_of variables v) k
-is_wanted variables (act.AwaitMessage v) (kind.Disconnected k) = is_channel (channel_of variables v) k
-is_wanted variables (act.AwaitClose v) (kind.Disconnected k) = is_channel (channel_of variables v) k
+is_wanted variables (act.AwaitMessage v) (kind.Message k) = is_channel (value_of variables.channels v) k
+is_wanted variables (act.AwaitMessage v) (kind.Disconnected k) = is_channel (value_of variables.channels v) k
+is_wanted variables (act.AwaitRequest v) (kind.Asked r) = true
+is_wanted variables (act.AwaitReply v) (kind.Replied r) = is_request (value_of variables.asked v) r
+is_wanted variables (act.AwaitReply v) (kind.Closed r) = is_request (value_of variables.asked v) r
+is_wanted variables (act.AwaitClose v) (kind.Disconnected k) = is_channel (value_of variables.channels v) k
 is_wanted variables _ _ = false
 
--- the awaited connection sets its variable
-abbrev pub set_by : Variables → Act → EventKind → Variables
-set_by variables (act.AwaitConnect v) (kind.Connected k) = set_channel variables v (Some k)
-set_by variables _ _ = variables
+-- what was awaited sets its variable: a connection, or a request, which this entry delivered
+abbrev pub set_by : Variables → Act → EntryNo → EventKind → Variables
+set_by variables (act.AwaitConnect v) e (kind.Connected k) = set_channel variables v (Some k)
+set_by variables (act.AwaitRequest v) e (kind.Asked r) = set_received variables v (Some (record { request = r; entry = e }))
+set_by variables _ e _ = variables
 
 -- behind an event that an await takes: an event that is not wanted is passed over
 abbrev pub behind_await : Variables → Act → List Act → Option Event → Place
 behind_await variables a acts None = within unbegun (a ∷ acts) variables
 behind_await variables a acts (Some event) =
-    if is_wanted variables a event.kind then within unbegun acts (set_by variables a event.kind) else within unbegun (a ∷ acts) variables
+    if is_wanted variables a event.kind then within unbegun acts (set_by variables a event.entry event.kind) else within unbegun (a ∷ acts) variables
 
--- behind an event that an echo takes: a message is to be answered, and every other event is passed over
-abbrev pub heard : ℕ → EntryNo → EventKind → Progress
-heard n e (kind.Message k) = answering n k e
-heard n e _ = echoing n
+-- behind an event that an echo takes: a message and a request are to be answered, and every other event is passed over
+abbrev pub behind_kind : ℕ → EntryNo → EventKind → Progress
+behind_kind n e (kind.Message k) = answering n (heard.Message k) e
+behind_kind n e (kind.Asked r) = answering n (heard.Request r) e
+behind_kind n e _ = echoing n
 
 abbrev pub behind_event : ℕ → Option Event → Progress
 behind_event n None = echoing n
-behind_event n (Some event) = heard n event.entry event.kind
+behind_event n (Some event) = behind_kind n event.entry event.kind
 
 -- Behind the first entry of an act. A command that binds a variable sets it to the number that it was answered with, and
 -- clears it where it was refused.
@@ -158,9 +209,15 @@ behind_act variables answer (act.Listen l) acts = within unbegun acts variables
 behind_act variables answer (act.Connect v target name) acts = within unbegun acts (set_channel variables v (channel_in answer))
 behind_act variables answer (act.Post v text) acts = within unbegun acts variables
 behind_act variables answer (act.Disconnect v) acts = within unbegun acts variables
+behind_act variables answer (act.Send v target text) acts = within unbegun acts (set_asked variables v (request_in answer))
+behind_act variables answer (act.Reply v text) acts = within unbegun acts variables
+behind_act variables answer (act.ReplySame v) acts = within unbegun acts variables
+behind_act variables answer (act.Decline v) acts = within unbegun acts variables
 behind_act variables answer act.Take acts = within unbegun acts variables
 behind_act variables answer (act.AwaitConnect v) acts = behind_await variables (act.AwaitConnect v) acts (event_in answer)
 behind_act variables answer (act.AwaitMessage v) acts = behind_await variables (act.AwaitMessage v) acts (event_in answer)
+behind_act variables answer (act.AwaitRequest v) acts = behind_await variables (act.AwaitRequest v) acts (event_in answer)
+behind_act variables answer (act.AwaitReply v) acts = behind_await variables (act.AwaitReply v) acts (event_in answer)
 behind_act variables answer (act.AwaitClose v) acts = behind_await variables (act.AwaitClose v) acts (event_in answer)
 behind_act variables answer (act.Echo n) acts = within (behind_event n (event_in answer)) (act.Echo n ∷ acts) variables
 
@@ -182,8 +239,14 @@ abbrev pub place_behind : List Command → Place → Answer → Place
 place_behind script outside answer = at_start script
 place_behind script (within unbegun acts variables) answer = behind_first variables answer (unskipped variables acts)
 place_behind script (within (echoing n) acts variables) answer = within (behind_event n (event_in answer)) acts variables
-place_behind script (within (answering n k e) acts variables) answer = behind_answer n acts variables
+place_behind script (within (answering n came e) acts variables) answer = behind_answer n acts variables
 place_behind script left answer = left
+
+-- the place behind the `leave`
+abbrev pub is_left : Place → Bool
+is_left outside = false
+is_left (within progress acts variables) = false
+is_left left = true
 
 -- the place of context c behind one more entry, which changes it only where it is c's own
 abbrev pub behind_entry : List Command → ContextNo → Place → Entry → Place

@@ -39,7 +39,7 @@ lines_added n d [] = Ok d
 lines_added n d (text ∷ texts) = unless_faulty n (text_added d text) (λ d. lines_added (n + 1) d texts)
 
 abbrev pub scene_from : Result Draft SceneFault → Result SceneValue SceneFault
-scene_from (Ok d) = Ok (record { extensions = d.extensions; endpoints = d.endpoints })
+scene_from (Ok d) = Ok (record { extensions = d.extensions; hosts = d.hosts; files = d.files; endpoints = d.endpoints })
 scene_from (Err e) = Err e
 
 -- the first line is the head line

@@ -14,9 +14,15 @@ IsSoundAct n (act.Listen l) = Unit {0}
 IsSoundAct n (act.Connect v target name) = v.0 < n
 IsSoundAct n (act.Post v text) = v.0 < n
 IsSoundAct n (act.Disconnect v) = v.0 < n
+IsSoundAct n (act.Send v target text) = v.0 < n
+IsSoundAct n (act.Reply v text) = v.0 < n
+IsSoundAct n (act.ReplySame v) = v.0 < n
+IsSoundAct n (act.Decline v) = v.0 < n
 IsSoundAct n act.Take = Unit {0}
 IsSoundAct n (act.AwaitConnect v) = v.0 < n
 IsSoundAct n (act.AwaitMessage v) = v.0 < n
+IsSoundAct n (act.AwaitRequest v) = v.0 < n
+IsSoundAct n (act.AwaitReply v) = v.0 < n
 IsSoundAct n (act.AwaitClose v) = v.0 < n
 IsSoundAct n (act.Echo k) = IsTrue (is_count k)
 

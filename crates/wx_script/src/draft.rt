@@ -11,7 +11,7 @@ ghost use Rattle.wx_script.specs.View.{act_view, command_view, line_view};
 
 use crate::line::{Line, NamedAct, NamedCommand};
 use crate::names::Names;
-use crate::scene::{SceneEndpoint, SceneExtension, SceneKind};
+use crate::scene::{SceneEndpoint, SceneExtension, SceneFile, SceneKind};
 use crate::script::{Act, Command, Script, Var};
 use std::alloc::{AllocError, AllocFailed, Global};
 use wx_id::{ExtensionId, NoMemory, Utf8Text};
@@ -23,6 +23,8 @@ use wx_machine::JsonText;
 #[derive(Drop)]
 pub(crate) struct Draft {
     pub(crate) extensions: Vec<SceneExtension>,
+    pub(crate) hosts: Vec<Utf8Text>,
+    pub(crate) files: Vec<SceneFile>,
     pub(crate) extension_names: Names,
     pub(crate) extension_ids: Names,
     pub(crate) endpoints: Vec<SceneEndpoint>,
@@ -78,6 +80,8 @@ impl Draft {
     {
         Draft {
             extensions: Vec::new(alloc),
+            hosts: Vec::new(alloc),
+            files: Vec::new(alloc),
             extension_names: Names::new(alloc),
             extension_ids: Names::new(alloc),
             endpoints: Vec::new(alloc),
@@ -129,7 +133,11 @@ fn add_extension(draft: &mut Draft, alloc: Global, name: &str, id: &[u8]) -> Res
     draft.extension_names.add(alloc, name)?;
     draft.extension_ids.add(alloc, id.text())?;
     let name = Utf8Text::new(alloc, name)?;
-    draft.extensions.push(SceneExtension { name, id })?;
+    draft.extensions.push(SceneExtension {
+        name,
+        id,
+        file: None,
+    })?;
     Ok(())
 }
 

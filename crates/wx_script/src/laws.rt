@@ -18,7 +18,7 @@ pub fn scenes()
     ensures head_line_alone { IsScene [] [] [] }
     ensures two_pages { TwoPages }
     ensures numbered_variables { NumberedVariables }
-    ensures head_line_without_line_feed { scene_of (codes "wx scene 1 chrome") ≡ Ok (record { extensions = []; endpoints = [] }) }
+    ensures head_line_without_line_feed { scene_of (codes "wx scene 1 chrome") ≡ Ok (record { extensions = []; hosts = []; files = []; endpoints = [] }) }
     ensures last_line_without_line_feed { LastLineUnended }
     ensures comments { CommentsPassedOver }
     ensures awaits_repeats_and_echoes { Awaiting }

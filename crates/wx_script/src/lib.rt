@@ -16,6 +16,6 @@ mod tests;
 mod word;
 
 pub use scene::{
-    Scene, SceneEndpoint, SceneExtension, SceneFault, SceneKind, SceneReadFault, SpentWho,
+    Scene, SceneEndpoint, SceneExtension, SceneFault, SceneFile, SceneKind, SceneReadFault, SpentWho,
 };
-pub use script::{Act, Command, Script, Var};
+pub use script::{Act, Command, Heard, Received, Script, Var};

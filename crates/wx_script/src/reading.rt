@@ -75,10 +75,12 @@ fn read_body(alloc: Global, text: &[u8]) -> Result<Scene, SceneReadFault>
         Ok(()) => {
             let Draft {
                 extensions,
+                hosts,
+                files,
                 endpoints,
                 ..
             } = draft;
-            Ok(Scene::new(extensions, endpoints))
+            Ok(Scene::new(extensions, hosts, files, endpoints))
         }
         Err(fault) => Err(fault),
     }

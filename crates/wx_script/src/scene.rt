@@ -3,8 +3,8 @@ ghost use Rattle.wx_script.specs.Sound.{AreSound};
 
 use crate::script::Script;
 use std::marker::Model;
-use wx_id::{ExtensionId, Utf8Text};
 use wx_context::Context;
+use wx_id::{ExtensionId, Utf8Text};
 
 /// An extension that a scene declares.
 #[derive(Debug, Drop)]
@@ -13,6 +13,17 @@ pub struct SceneExtension {
     pub name: Utf8Text,
     /// Its id.
     pub id: ExtensionId,
+    /// The file of its manifest, where it has one.
+    pub file: Option<Utf8Text>,
+}
+
+/// A file that a line of a scene names.
+#[derive(Clone, Copy, Debug, PartialEq, Eq)]
+pub enum SceneFile {
+    /// The manifest of the extension at this place among the scene's extensions, from 0.
+    Extension(u64),
+    /// The host manifest at this place among the scene's hosts, from 0.
+    Host(u64),
 }
 
 /// A context that a scene declares, with its script.
@@ -45,6 +56,8 @@ pub enum SceneKind {
     Repeated,
     /// The extension is not declared above.
     Unknown,
+    /// The address of a document is no http or https URL, or is too long.
+    Url,
     /// No earlier command of the script binds the variable.
     Unbound,
     /// The message is no JSON text.
@@ -76,10 +89,13 @@ pub enum SceneReadFault {
     NoMemory,
 }
 
-/// A scene that was read: its extensions and its endpoints, in order.
+/// A scene that was read: its extensions, the files of its host manifests, the files that its lines name, and its
+/// endpoints, each in order.
 #[derive(Debug, Drop)]
 pub struct Scene {
     extensions: Vec<SceneExtension>,
+    hosts: Vec<Utf8Text>,
+    files: Vec<SceneFile>,
     endpoints: Vec<SceneEndpoint>,
 }
 
@@ -89,19 +105,26 @@ impl Model for Scene {
 
     ghost Value = { SceneValue };
 
-    ghost view = { λ scene. record { extensions = scene.extensions.items; endpoints = scene.endpoints.items } };
+    ghost view = { λ scene. record { extensions = scene.extensions.items; hosts = scene.hosts.items; files = scene.files.items; endpoints = scene.endpoints.items } };
 
     ghost invariant = { λ scene. AreSound scene.endpoints.items };
 }
 
 impl Scene {
     /// The scene of these parts.
-    pub(crate) fn new(extensions: Vec<SceneExtension>, endpoints: Vec<SceneEndpoint>) -> Scene
+    pub(crate) fn new(
+        extensions: Vec<SceneExtension>,
+        hosts: Vec<Utf8Text>,
+        files: Vec<SceneFile>,
+        endpoints: Vec<SceneEndpoint>,
+    ) -> Scene
         requires { AreSound endpoints.items }
-        ensures { result ≡ record { extensions = extensions.items; endpoints = endpoints.items } }
+        ensures { result ≡ record { extensions = extensions.items; hosts = hosts.items; files = files.items; endpoints = endpoints.items } }
     {
         Scene {
             extensions,
+            hosts,
+            files,
             endpoints,
         }
     }
@@ -111,6 +134,20 @@ impl Scene {
         ensures { result.now ≡ self.now.extensions }
     {
         self.extensions.as_slice()
+    }
+
+    /// The files of its host manifests in order.
+    pub fn hosts(&self) -> &[Utf8Text]
+        ensures { result.now ≡ self.now.hosts }
+    {
+        self.hosts.as_slice()
+    }
+
+    /// The files that its lines name: one for each line that names a file, in order.
+    pub fn files(&self) -> &[SceneFile]
+        ensures { result.now ≡ self.now.files }
+    {
+        self.files.as_slice()
     }
 
     /// Its endpoints in order.

@@ -2,13 +2,30 @@ ghost use Rattle.std.specs.Prelude.{◌≡◌, [], ◌∷◌, ◌++◌, length, 
 
 use std::alloc::{AllocError, Global};
 use std::marker::Model;
-use wx_id::Utf8Text;
+use wx_id::{ChannelNo, EntryNo, RequestNo, Utf8Text};
 use wx_context::{Listens, Target};
 use wx_machine::JsonText;
 
-/// A variable of a script, numbered from 0 in the order of first binding.
+/// A variable of a script. Channels, requests that it asks and requests that it receives have variables of their own,
+/// each sort numbered from 0 in the order of first binding.
 #[derive(Clone, Copy, Debug, PartialEq, Eq)]
 pub struct Var(pub u32);
+
+/// A request that came, and the entry that delivered it, which carries its text.
+#[derive(Clone, Copy, Debug, PartialEq, Eq)]
+pub struct Received {
+    pub request: RequestNo,
+    pub entry: EntryNo,
+}
+
+/// What is answered by the text that it came with.
+#[derive(Clone, Copy, Debug, PartialEq, Eq)]
+pub enum Heard {
+    /// A message on this channel, by a `post`.
+    Message(ChannelNo),
+    /// This request, by a `reply`.
+    Request(RequestNo),
+}
 
 /// What a command does once.
 #[derive(Debug, Drop)]
@@ -21,15 +38,28 @@ pub enum Act {
     Post(Var, JsonText),
     /// One `disconnect` of the variable's channel.
     Disconnect(Var),
+    /// One `send`; binds the variable to the request that it asks.
+    Send(Var, Target, JsonText),
+    /// One `reply` to the variable's request, which was received.
+    Reply(Var, JsonText),
+    /// The same with the request's own text.
+    ReplySame(Var),
+    /// One `decline` of the variable's request, which was received.
+    Decline(Var),
     /// One `take`, whatever it answers.
     Take,
     /// Takes until a channel is connected; binds the variable to it.
     AwaitConnect(Var),
     /// Takes until a message comes on the variable's channel, or it is disconnected.
     AwaitMessage(Var),
+    /// Takes until a request comes; binds the variable to it.
+    AwaitRequest(Var),
+    /// Takes until the variable's request, which it asked, is replied to or closed.
+    AwaitReply(Var),
     /// Takes until the variable's channel is disconnected.
     AwaitClose(Var),
-    /// Takes until so many messages came, and answers each by a `post` of the same text on its channel.
+    /// Takes until so many messages and requests came, and answers each by its own text: a message by a `post` on its
+    /// channel, a request by a `reply`.
     Echo(u32),
 }
 
