@@ -24,11 +24,11 @@ pub fn done_if_live(entries: &[Entry], c: ContextNo) -> Answer
 }
 
 /// Whether the caller may reach the target; one that never came in may not.
-fn gate_for(world: &World, caller: Option<&Context>, target: Target) -> Verdict
-    ensures { result ≡ gate_for world.now (option_copied caller.entry) target }
+fn gate_for(world: &World, caller: Option<&Context>, target: &Target) -> Verdict
+    ensures { result ≡ gate_for world.now (option_copied caller.entry) target.now }
 {
     match caller {
-        Some(x) => gate(world, x, &target),
+        Some(x) => gate(world, x, target),
         None => Verdict::BadTarget,
     }
 }
@@ -45,8 +45,8 @@ fn where_open(verdict: Verdict, answer: Answer) -> Answer
 }
 
 /// That answer, where the target has a receiver.
-fn where_heard(entries: &[Entry], c: ContextNo, target: Target, sort: Sort, answer: Answer) -> Answer
-    ensures { result ≡ where_heard (receivers_of (reverse entries.now) c target sort) answer }
+fn where_heard(entries: &[Entry], c: ContextNo, target: &Target, sort: Sort, answer: Answer) -> Answer
+    ensures { result ≡ where_heard (receivers_of (reverse entries.now) c target.now sort) answer }
 {
     if contexts::has_receiver(entries, c, target, sort) {
         answer
@@ -60,11 +60,11 @@ fn to_target(
     world: &World,
     entries: &[Entry],
     c: ContextNo,
-    target: Target,
+    target: &Target,
     sort: Sort,
     answer: Answer,
 ) -> Answer
-    ensures { result ≡ cond (is_live (reverse entries.now) c) (where_open (gate_for world.now (context_of (reverse entries.now) c) target) (where_heard (receivers_of (reverse entries.now) c target sort) answer)) Answer.Gone }
+    ensures { result ≡ cond (is_live (reverse entries.now) c) (where_open (gate_for world.now (context_of (reverse entries.now) c) target.now) (where_heard (receivers_of (reverse entries.now) c target.now sort) answer)) Answer.Gone }
 {
     if !contexts::is_live(entries, c) {
         return Answer::Gone;
@@ -76,8 +76,8 @@ fn to_target(
 }
 
 /// The answer to a connect.
-pub fn connect(world: &World, entries: &[Entry], c: ContextNo, target: Target) -> Answer
-    ensures { result ≡ cond (is_live (reverse entries.now) c) (where_open (gate_for world.now (context_of (reverse entries.now) c) target) (where_heard (receivers_of (reverse entries.now) c target Sort.Connection) (Answer.Channel (record { 0 = length (channels (reverse entries.now)) })))) Answer.Gone }
+pub fn connect(world: &World, entries: &[Entry], c: ContextNo, target: &Target) -> Answer
+    ensures { result ≡ cond (is_live (reverse entries.now) c) (where_open (gate_for world.now (context_of (reverse entries.now) c) target.now) (where_heard (receivers_of (reverse entries.now) c target.now Sort.Connection) (Answer.Channel (record { 0 = length (channels (reverse entries.now)) })))) Answer.Gone }
 {
     let opened = Answer::Channel(ChannelNo(channels::count(entries)));
     to_target(world, entries, c, target, Sort::Connection, opened)
@@ -114,10 +114,10 @@ pub fn send(
     world: &World,
     entries: &[Entry],
     c: ContextNo,
-    target: Target,
+    target: &Target,
     text: &JsonText,
 ) -> Answer
-    ensures { result ≡ cond (is_live (reverse entries.now) c) (where_open (gate_for world.now (context_of (reverse entries.now) c) target) (where_heard (receivers_of (reverse entries.now) c target Sort.Message) (where_short text.now (Answer.Request (record { 0 = length (requests (reverse entries.now)) }))))) Answer.Gone }
+    ensures { result ≡ cond (is_live (reverse entries.now) c) (where_open (gate_for world.now (context_of (reverse entries.now) c) target.now) (where_heard (receivers_of (reverse entries.now) c target.now Sort.Message) (where_short text.now (Answer.Request (record { 0 = length (requests (reverse entries.now)) }))))) Answer.Gone }
 {
     let asked = where_short(text, Answer::Request(RequestNo(requests::count(entries))));
     to_target(world, entries, c, target, Sort::Message, asked)

@@ -122,7 +122,7 @@ impl Broker {
         ensures room { 0 < self.old.spare → IsOk result }
         ensures spare { self.old.spare ≤ self.new.spare + 1 }
     {
-        let answer = answers::connect(&self.world, self.journal.entries(), c, target);
+        let answer = answers::connect(&self.world, self.journal.entries(), c, &target);
         let e = Entry {
             who: Who::Context(c),
             call: Call::Connect(target, name),
@@ -186,7 +186,7 @@ impl Broker {
         ensures room { 0 < self.old.spare → IsOk result }
         ensures spare { self.old.spare ≤ self.new.spare + 1 }
     {
-        let answer = answers::send(&self.world, self.journal.entries(), c, target, &text);
+        let answer = answers::send(&self.world, self.journal.entries(), c, &target, &text);
         let e = Entry {
             who: Who::Context(c),
             call: Call::Send(target, text),
@@ -293,9 +293,9 @@ impl Broker {
     }
 
     /// The world that it was made with.
-    pub fn world(&self) -> World
-        ensures { result ≡ self.now.world }
+    pub fn world(&self) -> &World
+        ensures { result.now ≡ self.now.world }
     {
-        self.world
+        &self.world
     }
 }

@@ -1,18 +1,21 @@
 -- Worked examples of the machine: calls, and what they are answered one after another.
-use Rattle.std.specs.Prelude.{◌≡◌, ℕ, List, [], ◌∷◌, ◌++◌, map, true, false, reverse, codes, Some}
+use Rattle.std.specs.Prelude.{◌≡◌, ℕ, List, [], ◌∷◌, ◌++◌, map, true, false, reverse, codes, Option, Some, None}
+use Rattle.wx_id.specs.declared.numbers.TabId.{TabId}
+use Rattle.wx_id.specs.declared.numbers.FrameId.{FrameId}
 use Rattle.wx_id.specs.declared.numbers.ChannelNo.{ChannelNo}
 use Rattle.wx_id.specs.declared.numbers.RequestNo.{RequestNo}
 use Rattle.wx_id.specs.declared.events.EventKind.{EventKind}
 use Rattle.wx_id.specs.declared.events.EventKind.TheVariants.{Connected, Message, Disconnected, Asked, Replied, Closed}
-use Rattle.wx_context.specs.declared.contexts.Context.TheVariants.{Page}
-use Rattle.wx_context.specs.declared.contexts.Target.TheVariants.{Own}
+use Rattle.wx_context.specs.declared.contexts.Context.TheVariants.{Page, Content, Web}
+use Rattle.wx_context.specs.declared.contexts.Target.TheVariants.{Own, Other, Tab}
+use Rattle.wx_external.specs.declared.gates.Rule.TheVariants.{Url}
 use Rattle.wx_external.specs.World.{WorldLists}
 use Rattle.wx_machine.specs.declared.entries.Who.{Who}
 use Rattle.wx_machine.specs.declared.entries.Who.TheVariants.{Context as ByContext}
 use Rattle.wx_machine.specs.declared.entries.Call.{Call}
 use Rattle.wx_machine.specs.declared.entries.Call.TheVariants.{Enter, Listen, Leave, Connect, Post, Disconnect, Send, Reply, Decline, Take}
 use Rattle.wx_machine.specs.declared.entries.Answer.{Answer}
-use Rattle.wx_machine.specs.declared.entries.Answer.TheVariants.{Entered, Channel as OnChannel, Request as OnRequest, Event as Told, Done, Gone, NoReceiver, Posted, PortClosed, NoEffect, First, Late, NotYours, Empty}
+use Rattle.wx_machine.specs.declared.entries.Answer.TheVariants.{Entered, Channel as OnChannel, Request as OnRequest, Event as Told, Done, Gone, BadTarget, Forbidden, NoReceiver, Posted, PortClosed, NoEffect, First, Late, NotYours, Empty}
 use Rattle.wx_machine.specs.declared.entries.Entry.{Entry}
 use Rattle.wx_machine.specs.Channels.{closed_at}
 use Rattle.wx_machine.specs.Answers.{made_of}
@@ -169,3 +172,45 @@ EarlyDecline =
     ∷ by 0 (send (codes "1")) ∷ by 0 (reply 0 (codes "2")) ∷ by 1 (reply 0 (codes "3")) ∷ by 0 Take ∷ by 1 Take ∷ [])
     ≡ entered 0 ∷ entered 1 ∷ Done ∷ NotYours
     ∷ OnRequest (request 0) ∷ NotYours ∷ First ∷ told 6 (Replied (request 0)) ∷ told 4 (Asked (request 0)) ∷ []
+
+abbrev pub frame_of_tab : ℕ → List ℕ → Call
+frame_of_tab frame url = Enter (Content id_a (record { 0 = 7 }) (record { 0 = frame }) url)
+
+abbrev pub connect_to_tab : Option FrameId → Call
+connect_to_tab frame = Connect (Tab (record { 0 = 7 }) frame) []
+
+-- a page reaches the content scripts of its extension that listen in a tab, or the one in a frame of it
+abbrev pub TabsAndFrames : Type 0
+TabsAndFrames =
+    (world : WorldLists) → answers_to world
+    (by 0 (frame_of_tab 0 (codes "https://a.b/")) ∷ by 0 listen_connect ∷ by 1 (frame_of_tab 3 (codes "https://a.b/f")) ∷ by 1 listen_connect ∷ by 2 (a_page (codes "/p"))
+    ∷ by 2 (connect_to_tab (Some (record { 0 = 5 }))) ∷ by 2 (connect_to_tab (Some (record { 0 = 3 }))) ∷ by 1 Take ∷ by 2 (connect_to_tab None) ∷ by 0 Take ∷ by 1 Take ∷ [])
+    ≡ entered 0 ∷ Done ∷ entered 1 ∷ Done ∷ entered 2
+    ∷ NoReceiver ∷ OnChannel (channel 0) ∷ told 6 (Connected (channel 0)) ∷ OnChannel (channel 1) ∷ told 8 (Connected (channel 1)) ∷ told 8 (Connected (channel 1)) ∷ []
+
+abbrev pub id_b : List ℕ
+id_b = codes "bbbbbbbbbbbbbbbbbbbbbbbbbbbbbbbb"
+
+-- where no extension has a manifest
+abbrev pub no_manifests : WorldLists
+no_manifests = record { extensions = []; hosts = [] }
+
+abbrev pub connect_to_a : Call
+connect_to_a = Connect (Other id_a) []
+
+-- a page that listens to connections from outside hears another extension; no web page may call its extension, nor an extension of its own
+abbrev pub FromOutside : Type 0
+FromOutside =
+    answers_to no_manifests
+    (by 0 (a_page (codes "/p")) ∷ by 0 (Listen (record { connect = false; message = false; external_connect = true; external_message = false }))
+    ∷ by 1 (Enter (Page id_b (codes "/q"))) ∷ by 2 (Enter (Web (record { 0 = 7 }) (record { 0 = 0 }) (codes "https://a.b/")))
+    ∷ by 1 connect_to_a ∷ by 2 connect_to_a ∷ by 0 Take ∷ by 1 Leave ∷ by 2 connect ∷ [])
+    ≡ entered 0 ∷ Done ∷ entered 1 ∷ entered 2
+    ∷ OnChannel (channel 0) ∷ Forbidden Url ∷ told 4 (Connected (channel 0)) ∷ Done ∷ BadTarget ∷ []
+
+-- what listens to its own extension alone does not hear another one
+abbrev pub OwnFlagsServeOwnCalls : Type 0
+OwnFlagsServeOwnCalls =
+    answers_to no_manifests
+    (by 0 (a_page (codes "/p")) ∷ by 0 listen_connect ∷ by 1 (Enter (Page id_b (codes "/q"))) ∷ by 1 connect_to_a ∷ [])
+    ≡ entered 0 ∷ Done ∷ entered 1 ∷ NoReceiver ∷ []

@@ -1,5 +1,5 @@
 //! Worked examples of the definitions, each the contract of a function that does nothing.
-ghost use Rattle.wx_machine.specs.Rows.{OneConnectionOnePost, ConnectReachesNobody, ReceiverDisconnects, ReceiverLeaves, PostsOutliveTheOpener, DisconnectDropsWhatWaits, FirstReplyWins, ClosedWithoutReply, AskerLeaves, EarlyDecline};
+ghost use Rattle.wx_machine.specs.Rows.{OneConnectionOnePost, ConnectReachesNobody, ReceiverDisconnects, ReceiverLeaves, PostsOutliveTheOpener, DisconnectDropsWhatWaits, FirstReplyWins, ClosedWithoutReply, AskerLeaves, EarlyDecline, TabsAndFrames, FromOutside, OwnFlagsServeOwnCalls};
 
 /// Two pages, one connection, one posted number.
 pub fn one_connection_one_post()
@@ -49,4 +49,15 @@ pub fn asker_leaves()
 /// A decline before the request is made does not count.
 pub fn early_decline()
     ensures { EarlyDecline }
+{}
+
+/// A page reaches the content scripts of its extension in a tab, or in a frame of it.
+pub fn tabs_and_frames()
+    ensures { TabsAndFrames }
+{}
+
+/// What comes from outside passes the gate, and is heard by those who listen to the outside.
+pub fn from_outside()
+    ensures heard { FromOutside }
+    ensures not_heard { OwnFlagsServeOwnCalls }
 {}

@@ -8,7 +8,7 @@ use Rattle.wx_context.specs.declared.contexts.Context.{Context}
 use Rattle.wx_context.specs.declared.contexts.Target.{Target}
 use Rattle.wx_machine.specs.declared.sorts.Sort.{Sort}
 use Rattle.wx_machine.specs.declared.entries.Entry.{Entry}
-use Rattle.wx_machine.specs.Contexts.{same_context, is_there, if_numbered, enters, context_of, numbers, numbers_of, has_left, names_if, listens_of, is_receiver, receivers_of}
+use Rattle.wx_machine.specs.Contexts.{same_context, is_there, if_numbered, enters, context_of, numbers, numbers_of, has_left, reaches_from, listens_of, is_receiver, receivers_of}
 use Rattle.wx_machine.specs.Channels.{Ends, opens, channels, channel, end_in, is_among}
 use Rattle.wx_walks.proofs.Past.{came_more}
 
@@ -106,7 +106,7 @@ pub is_among_receivers : (past : List Entry) (o : ContextNo) (target : Target) (
 is_among_receivers past o target sort c =
     among_filter (is_receiver past o target sort) (numbers past) c
     ∙ ap (λ b. is_receiver past o target sort c && b) (sym (came_numbered past c))
-    ∙ given_there (not (same_context c o)) (is_there (context_of past c)) (not (has_left past c)) (names_if (context_of past o) target sort (context_of past c) (listens_of past c))
+    ∙ given_there (not (same_context c o)) (is_there (context_of past c)) (not (has_left past c)) (reaches_from (context_of past o) target sort (context_of past c) (listens_of past c))
   where
     given_there : (a b d n : Bool) → (((a && (b && d)) && n) && b) ≡ ((a && (b && d)) && n)
     given_there true true true true = refl

@@ -39,7 +39,7 @@ pub fn end_at_opening(before: &[Entry], e: &Entry, c: ContextNo) -> End
         (Who::Context(opener), Call::Connect(target, _), Answer::Channel(_)) => {
             if *opener == c {
                 End::Opener
-            } else if is_receiver(before, *opener, *target, Sort::Connection, c) {
+            } else if is_receiver(before, *opener, target, Sort::Connection, c) {
                 End::Receiver
             } else {
                 End::Neither

@@ -25,12 +25,12 @@ pub fn is_live_after(before: &[Entry], e: &Entry, c: ContextNo) -> bool
 fn receives_and_lives(
     at: &[Entry],
     opener: ContextNo,
-    target: Target,
+    target: &Target,
     f: &Entry,
     before: &[Entry],
     e: &Entry,
 ) -> bool
-    ensures { result ≡ list_any (is_live (e.now ∷ reverse before.now)) (filter (is_receiver (reverse at.now) opener target Sort.Connection) (numbers_of (enters f.now))) }
+    ensures { result ≡ list_any (is_live (e.now ∷ reverse before.now)) (filter (is_receiver (reverse at.now) opener target.now Sort.Connection) (numbers_of (enters f.now))) }
 {
     match (&f.who, &f.call, &f.answer) {
         (Who::Context(_), Call::Enter(_), Answer::Entered(n)) => {
@@ -45,11 +45,11 @@ fn receives_and_lives(
 fn some_receiver_lives(
     at: &[Entry],
     opener: ContextNo,
-    target: Target,
+    target: &Target,
     before: &[Entry],
     e: &Entry,
 ) -> bool
-    ensures { result ≡ list_any (is_live (e.now ∷ reverse before.now)) (receivers_of (reverse at.now) opener target Sort.Connection) }
+    ensures { result ≡ list_any (is_live (e.now ∷ reverse before.now)) (receivers_of (reverse at.now) opener target.now Sort.Connection) }
 {
     let mut any = false;
     for f in at {
@@ -64,7 +64,7 @@ fn has_live_at_opening(at: &[Entry], f: &Entry, before: &[Entry], e: &Entry) -> 
 {
     match (&f.who, &f.call, &f.answer) {
         (Who::Context(opener), Call::Connect(target, _), Answer::Channel(_)) => {
-            some_receiver_lives(at, *opener, *target, before, e)
+            some_receiver_lives(at, *opener, target, before, e)
         }
         _ => false,
     }

@@ -213,19 +213,19 @@ fn is_script_in(
 }
 
 /// Whether a target of a caller from that extension names the context.
-pub fn names(own: Option<&ExtensionId>, target: Target, y: &Context) -> bool
-    ensures { result ≡ names (option_copied own.entry) target y.now }
+pub fn names(own: Option<&ExtensionId>, target: &Target, y: &Context) -> bool
+    ensures { result ≡ names (option_copied own.entry) target.now y.now }
 {
     match target {
         Target::Own => is_page_of(own, y),
-        Target::Other(id) => is_page_of(Some(&id), y),
-        Target::Tab(t, f) => is_script_in(own, t, f, y),
+        Target::Other(id) => is_page_of(Some(id), y),
+        Target::Tab(t, f) => is_script_in(own, *t, *f, y),
     }
 }
 
 /// Whether what is for the target comes to it from outside.
-fn is_external(target: Target) -> bool
-    ensures { result ≡ is_external target }
+fn is_external(target: &Target) -> bool
+    ensures { result ≡ is_external target.now }
 {
     matches!(target, Target::Other(_))
 }
@@ -242,23 +242,23 @@ pub fn hears(sort: Sort, external: bool, l: Listens) -> bool
     }
 }
 
-fn reaches(own: Option<&ExtensionId>, target: Target, sort: Sort, y: &Context, l: Listens) -> bool
-    ensures { result ≡ reaches (option_copied own.entry) target sort y.now l }
+fn reaches(own: Option<&ExtensionId>, target: &Target, sort: Sort, y: &Context, l: Listens) -> bool
+    ensures { result ≡ reaches (option_copied own.entry) target.now sort y.now l }
 {
     names(own, target, y) && hears(sort, is_external(target), l)
 }
 
 fn reaches_from(
     x: Option<&Context>,
-    target: Target,
+    target: &Target,
     sort: Sort,
     y: Option<&Context>,
     l: Listens,
 ) -> bool
-    ensures { result ≡ reaches_from (option_copied x.entry) target sort (option_copied y.entry) l }
+    ensures { result ≡ reaches_from (option_copied x.entry) target.now sort (option_copied y.entry) l }
 {
     match (x, y) {
-        (Some(x), Some(y)) => reaches(extension_of(x), meant(x, &target), sort, y, l),
+        (Some(x), Some(y)) => reaches(extension_of(x), &meant(x, target), sort, y, l),
         _ => false,
     }
 }
@@ -267,11 +267,11 @@ fn reaches_from(
 pub fn is_receiver(
     entries: &[Entry],
     c: ContextNo,
-    target: Target,
+    target: &Target,
     sort: Sort,
     d: ContextNo,
 ) -> bool
-    ensures { result ≡ is_receiver (reverse entries.now) c target sort d }
+    ensures { result ≡ is_receiver (reverse entries.now) c target.now sort d }
 {
     d != c
         && is_live(entries, d)
@@ -285,8 +285,8 @@ pub fn is_receiver(
 }
 
 /// Whether the entry f brings in a context that is a receiver.
-fn brings_receiver(at: &[Entry], c: ContextNo, target: Target, sort: Sort, f: &Entry) -> bool
-    ensures { result ≡ list_any (λ _. true) (filter (is_receiver (reverse at.now) c target sort) (numbers_of (enters f.now))) }
+fn brings_receiver(at: &[Entry], c: ContextNo, target: &Target, sort: Sort, f: &Entry) -> bool
+    ensures { result ≡ list_any (λ _. true) (filter (is_receiver (reverse at.now) c target.now sort) (numbers_of (enters f.now))) }
 {
     match (&f.who, &f.call, &f.answer) {
         (Who::Context(_), Call::Enter(_), Answer::Entered(n)) => is_receiver(
@@ -298,8 +298,8 @@ fn brings_receiver(at: &[Entry], c: ContextNo, target: Target, sort: Sort, f: &E
 
 /// The target has a receiver of that sort.
 #[tactic(auto, using(crate::proofs::Past::past_at_read, crate::proofs::ClosingLater::some_more))]
-pub fn has_receiver(at: &[Entry], c: ContextNo, target: Target, sort: Sort) -> bool
-    ensures { result ≡ list_any (λ _. true) (receivers_of (reverse at.now) c target sort) }
+pub fn has_receiver(at: &[Entry], c: ContextNo, target: &Target, sort: Sort) -> bool
+    ensures { result ≡ list_any (λ _. true) (receivers_of (reverse at.now) c target.now sort) }
 {
     let mut any = false;
     for f in at {

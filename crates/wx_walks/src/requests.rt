@@ -52,7 +52,7 @@ pub fn is_asked_at(before: &[Entry], e: &Entry, c: ContextNo) -> bool
 {
     match (&e.who, &e.call, &e.answer) {
         (Who::Context(asker), Call::Send(target, _), Answer::Request(_)) => {
-            is_receiver(before, *asker, *target, Sort::Message, c)
+            is_receiver(before, *asker, target, Sort::Message, c)
         }
         _ => false,
     }
@@ -161,13 +161,13 @@ fn is_open_after(before: &[Entry], e: &Entry, r: RequestNo, c: ContextNo) -> boo
 fn receives_and_is_open(
     at: &[Entry],
     asker: ContextNo,
-    target: Target,
+    target: &Target,
     f: &Entry,
     before: &[Entry],
     e: &Entry,
     r: RequestNo,
 ) -> bool
-    ensures { result ≡ list_any (is_open_to (e.now ∷ reverse before.now) r.0) (filter (is_receiver (reverse at.now) asker target Sort.Message) (numbers_of (enters f.now))) }
+    ensures { result ≡ list_any (is_open_to (e.now ∷ reverse before.now) r.0) (filter (is_receiver (reverse at.now) asker target.now Sort.Message) (numbers_of (enters f.now))) }
 {
     match (&f.who, &f.call, &f.answer) {
         (Who::Context(_), Call::Enter(_), Answer::Entered(n)) => {
@@ -182,12 +182,12 @@ fn receives_and_is_open(
 fn some_receiver_is_open(
     at: &[Entry],
     asker: ContextNo,
-    target: Target,
+    target: &Target,
     before: &[Entry],
     e: &Entry,
     r: RequestNo,
 ) -> bool
-    ensures { result ≡ list_any (is_open_to (e.now ∷ reverse before.now) r.0) (receivers_of (reverse at.now) asker target Sort.Message) }
+    ensures { result ≡ list_any (is_open_to (e.now ∷ reverse before.now) r.0) (receivers_of (reverse at.now) asker target.now Sort.Message) }
 {
     let mut any = false;
     for f in at {
@@ -202,7 +202,7 @@ fn has_open_at(at: &[Entry], f: &Entry, before: &[Entry], e: &Entry, r: RequestN
 {
     match (&f.who, &f.call, &f.answer) {
         (Who::Context(asker), Call::Send(target, _), Answer::Request(_)) => {
-            some_receiver_is_open(at, *asker, *target, before, e, r)
+            some_receiver_is_open(at, *asker, target, before, e, r)
         }
         _ => false,
     }
