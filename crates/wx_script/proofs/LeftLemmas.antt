@@ -4,7 +4,7 @@ use Rattle.std.specs.Prelude.{slice_get, IsTrue, ◌&&◌, ◌||◌, not, is_non
 use native.Mathlib.Omega.{arith}
 use Rattle.std.proofs.lemmas.Bool.{eqb-true, eq-eqb}
 use Rattle.wx_id.specs.declared.numbers.ContextNo.{ContextNo}
-use Rattle.wx_id.specs.declared.numbers.ChannelNo.{ChannelNo}
+use Rattle.wx_id.specs.declared.events.Event.{Event}
 use Rattle.wx_external.specs.World.{WorldLists}
 use Rattle.wx_machine.specs.declared.entries.Who.{Who}
 use Rattle.wx_machine.specs.declared.entries.Who.TheVariants.{Context as ByContext}
@@ -13,6 +13,7 @@ use Rattle.wx_machine.specs.declared.entries.Call.TheVariants as call
 use Rattle.wx_machine.specs.declared.entries.Answer.{Answer}
 use Rattle.wx_machine.specs.declared.entries.Entry.{Entry}
 use Rattle.wx_machine.specs.Contexts.{is_by, is_leave, is_enter, is_there, context_of, has_left, enters, if_numbered, brought}
+use Rattle.wx_machine.specs.Carried.{text_of}
 use Rattle.wx_machine.specs.Answers.{FollowsMachine, may_make, answer_after}
 use Rattle.wx_context.specs.declared.contexts.Context.{Context}
 use Rattle.std.specs.Option.{option_or}
@@ -20,47 +21,52 @@ use Rattle.wx_machine.specs.Each.{EachAfter}
 use Rattle.wx_script.specs.declared.script.Act.{Act}
 use Rattle.wx_script.specs.declared.script.Act.TheVariants as act
 use Rattle.wx_script.specs.declared.script.Command.{Command}
-use Rattle.wx_script.specs.Places.{Place, outside, within, left, Progress, unbegun, echoing, answering, Next, enters as comes, asks, waits, ends, Variables, begins_with, unskipped, asks_first, or_ends, asks_answer, next_at, next_of, place_of, place_behind, behind_first, behind_act, behind_await, behind_answer, behind_event, event_in}
+use Rattle.wx_script.specs.declared.script.Heard.{Heard}
+use Rattle.wx_script.specs.declared.script.Heard.TheVariants as heard
+use Rattle.wx_script.specs.Places.{Place, outside, within, left, is_left, unbegun, echoing, answering, Beginning, calls, awaits, answers, Variables, begins_with, unskipped, asks_first, next_or_end, next_from, asks_answer, next_at, next_of, place_of, place_behind, behind_first, behind_act, behind_await, behind_answer, is_wanted, set_by, event_in}
 use Rattle.wx_script.specs.Carries.{MayCome, AskedOf, FollowsScript, IsAskedOf}
 use Rattle.wx_script.specs.Ends.{is_end, has_ended}
+use Rattle.wx_script.proofs.ByLemmas.{is_by-own}
 
-unended_next : (variables : Variables) (a : Act) (n : Next) → begins_with variables a ≡ Some n → is_end n ≡ false
-unended_next variables a n is = grind arith
+unended_answer : (came : Heard) (text : Option (List ℕ)) → is_end (asks_answer came text) ≡ false
+unended_answer came None = refl
+unended_answer came (Some text) = refl
+
+unended_next : (past : List Entry) (b : Beginning) → is_end (next_from past b) ≡ false
+unended_next past (calls x) = refl
+unended_next past awaits = refl
+unended_next past (answers came e) = unended_answer came (text_of past e)
 
 -- what is left in front is not passed over
-unended_first : (variables : Variables) (acts : List Act) → is_end (asks_first variables (unskipped variables acts)) ≡ false
-unended_first variables [] = refl
-unended_first variables (a ∷ acts) =
-    elim (begins_with variables a) as (λ (b : Option Next). begins_with variables a ≡ b → is_end (asks_first variables (cond (is_none b) (unskipped variables acts) (a ∷ acts))) ≡ false) [
-      | None ↦ λ is. unended_first variables acts
-      | Some n ↦ λ is. ap (λ b. is_end (or_ends b)) is ∙ unended_next variables a n is
+unended_first : (past : List Entry) (variables : Variables) (acts : List Act) → is_end (asks_first past variables (unskipped variables acts)) ≡ false
+unended_first past variables [] = refl
+unended_first past variables (a ∷ acts) =
+    elim (begins_with variables a) as (λ (b : Option Beginning). begins_with variables a ≡ b → is_end (asks_first past variables (cond (is_none b) (unskipped variables acts) (a ∷ acts))) ≡ false) [
+      | None ↦ λ is. unended_first past variables acts
+      | Some b ↦ λ is. ap (λ b. is_end (next_or_end past b)) is ∙ unended_next past b
     ] refl
 
-unended_answer : (k : ChannelNo) (text : Option (List ℕ)) → is_end (asks_answer k text) ≡ false
-unended_answer k None = refl
-unended_answer k (Some text) = refl
-
--- the place behind the `leave`
-abbrev pub is_left : Place → Bool
-is_left outside = false
-is_left (within progress acts variables) = false
-is_left left = true
-
 -- nothing comes next only behind the `leave`
-end_is_left : (past : List Entry) (p : Place) → is_end (next_at past p) ≡ is_left p
+pub end_is_left : (past : List Entry) (p : Place) → is_end (next_at past p) ≡ is_left p
 end_is_left past outside = refl
-end_is_left past (within unbegun acts variables) = unended_first variables acts
+end_is_left past (within unbegun acts variables) = unended_first past variables acts
 end_is_left past (within (echoing n) acts variables) = refl
-end_is_left past (within (answering n k e) acts variables) = unended_answer k _
+end_is_left past (within (answering n came e) acts variables) = unended_answer came (text_of past e)
 end_is_left past left = refl
 
--- what an endpoint asks for is a leave only behind its last act
-no_leave_next : (variables : Variables) (a : Act) (n : Next) → begins_with variables a ≡ Some n → (n ≡ asks call.Leave) → ⊥
-no_leave_next variables a n is same = grind arith
-
 -- an act that begins with something is not left behind by one entry
+await_stays : (variables : Variables) (a : Act) (acts : List Act) (event : Option Event) → is_left (behind_await variables a acts event) ≡ false
+await_stays variables a acts None = refl
+await_stays variables a acts (Some event) =
+    elim (is_wanted variables a event.kind) as (λ b. is_left (cond b (within unbegun acts (set_by variables a event.entry event.kind)) (within unbegun (a ∷ acts) variables)) ≡ false) [ true ↦ refl | false ↦ refl ]
+
 stays_within : (variables : Variables) (answer : Answer) (a : Act) (acts : List Act) → is_left (behind_act variables answer a acts) ≡ false
-stays_within variables answer a acts = grind arith
+stays_within variables answer (act.AwaitConnect v) acts = await_stays variables (act.AwaitConnect v) acts (event_in answer)
+stays_within variables answer (act.AwaitMessage v) acts = await_stays variables (act.AwaitMessage v) acts (event_in answer)
+stays_within variables answer (act.AwaitRequest v) acts = await_stays variables (act.AwaitRequest v) acts (event_in answer)
+stays_within variables answer (act.AwaitReply v) acts = await_stays variables (act.AwaitReply v) acts (event_in answer)
+stays_within variables answer (act.AwaitClose v) acts = await_stays variables (act.AwaitClose v) acts (event_in answer)
+stays_within variables answer _ acts = refl
 
 stays_in_echo : (n : ℕ) (acts : List Act) (variables : Variables) → is_left (behind_answer n acts variables) ≡ false
 stays_in_echo n acts variables = grind arith
@@ -77,22 +83,20 @@ enter_no_leave x is = grind arith
 take_no_leave : (x : Call) → x ≡ call.Take → is_leave x ≡ false
 take_no_leave x is = ap is_leave is
 
-asked_no_leave : (past : List Entry) (c : ContextNo) (e : Entry) (n : Next) → MayCome past c n e → (n ≡ asks call.Leave → ⊥) → is_leave e.call ≡ false
-asked_no_leave past c e comes may other = enter_no_leave e.call may
-asked_no_leave past c e (asks x) may other = no_leave e.call x may (λ same. other (ap asks same))
-  where
-    no_leave : (y x : Call) → y ≡ x → (x ≡ call.Leave → ⊥) → is_leave y ≡ false
-    no_leave y x same other = grind arith
-asked_no_leave past c e waits may other = take_no_leave e.call may.0
-asked_no_leave past c e ends may other = absurd may
+-- the call that an act begins with is none
+call_no_leave : (variables : Variables) (a : Act) (x : Call) → begins_with variables a ≡ Some (calls x) → is_leave x ≡ false
+call_no_leave variables a x is = grind arith
 
-first_no_leave : (past : List Entry) (c : ContextNo) (e : Entry) (variables : Variables) (a : Act) (b : Option Next) → begins_with variables a ≡ b → MayCome past c (or_ends b) e → is_leave e.call ≡ false
+answer_no_leave : (past : List Entry) (c : ContextNo) (e : Entry) (came : Heard) (text : Option (List ℕ)) → MayCome past c (asks_answer came text) e → is_leave e.call ≡ false
+answer_no_leave past c e came None may = take_no_leave e.call may.0
+answer_no_leave past c e (heard.Message k) (Some text) may = ap is_leave may
+answer_no_leave past c e (heard.Request r) (Some text) may = ap is_leave may
+
+first_no_leave : (past : List Entry) (c : ContextNo) (e : Entry) (variables : Variables) (a : Act) (b : Option Beginning) → begins_with variables a ≡ b → MayCome past c (next_or_end past b) e → is_leave e.call ≡ false
 first_no_leave past c e variables a None is may = absurd may
-first_no_leave past c e variables a (Some n) is may = asked_no_leave past c e n may (no_leave_next variables a n is)
-
-answer_no_leave : (past : List Entry) (c : ContextNo) (e : Entry) (k : ChannelNo) (text : Option (List ℕ)) → MayCome past c (asks_answer k text) e → is_leave e.call ≡ false
-answer_no_leave past c e k None may = take_no_leave e.call may.0
-answer_no_leave past c e k (Some text) may = ap is_leave may
+first_no_leave past c e variables a (Some (calls x)) is may = ap is_leave may ∙ call_no_leave variables a x is
+first_no_leave past c e variables a (Some awaits) is may = take_no_leave e.call may.0
+first_no_leave past c e variables a (Some (answers came n)) is may = answer_no_leave past c e came (text_of past n) may
 
 -- ---- one own entry
 
@@ -114,7 +118,7 @@ no_leave : (script : List Command) (p : Place) (e : Entry) → is_leave e.call �
 no_leave script p e none after before = record { entered = λ is. contra (is_leave e.call) (is_in p) none is; leaves = after ∙ sym none; before = before }
 
 steps_first : (script : List Command) (past : List Entry) (c : ContextNo) (e : Entry) (variables : Variables) (acts u : List Act) → unskipped variables acts ≡ u
-    → MayCome past c (asks_first variables u) e → is_left (behind_first variables e.answer u) ≡ is_leave e.call
+    → MayCome past c (asks_first past variables u) e → is_left (behind_first variables e.answer u) ≡ is_leave e.call
 steps_first script past c e variables acts [] is may = sym (ap is_leave may)
 steps_first script past c e variables acts (a ∷ rest) is may = stays_within variables e.answer a rest ∙ sym (first_no_leave past c e variables a (begins_with variables a) refl may)
 
@@ -123,8 +127,8 @@ steps script past c outside e may = no_leave script outside e (enter_no_leave e.
 steps script past c (within unbegun acts variables) e may =
     record { entered = λ is. refl; leaves = steps_first script past c e variables acts (unskipped variables acts) refl may; before = refl }
 steps script past c (within (echoing n) acts variables) e may = no_leave script (within (echoing n) acts variables) e (take_no_leave e.call may.0) refl refl
-steps script past c (within (answering n k m) acts variables) e may =
-    no_leave script (within (answering n k m) acts variables) e (answer_no_leave past c e k _ may) (stays_in_echo n acts variables) refl
+steps script past c (within (answering n came m) acts variables) e may =
+    no_leave script (within (answering n came m) acts variables) e (answer_no_leave past c e came (text_of past m) may) (stays_in_echo n acts variables) refl
 steps script past c left e may = absurd may
 
 -- ---- behind all entries
@@ -177,9 +181,6 @@ came_first world script c past e outside own may follows there =
     either_there (context_of past c) _ ∙ or_true (is_there (context_of past c)) _ now
 came_first world script c past e (within progress acts variables) own may follows there = still_there past e c (there refl)
 came_first world script c past e left own may follows there = still_there past e c (there refl)
-
-is_by-own : (who : Who) (c : ContextNo) → who ≡ ByContext c → is_by who c ≡ true
-is_by-own who c own = ap (λ w. is_by w c) own ∙ eq-eqb c.0 c.0 refl
 
 agrees_own : (world : WorldLists) (script : List Command) (c : ContextNo) (past : List Entry) (e : Entry) → Agrees script c past → e.who ≡ ByContext c
     → MayCome past c (next_of script c past) e → FollowsMachine world past e → Agrees script c (e ∷ past)

@@ -8,5 +8,6 @@ pub mod DraftLemmas
 pub mod NameLemmas
 pub mod ReadingLemmas
 pub mod FaultLemmas
+pub mod ByLemmas
 pub mod LeftLemmas
 pub mod SoundLemmas

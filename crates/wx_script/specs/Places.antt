@@ -115,11 +115,15 @@ pub data Place : Type 0 where
   -- it has made its `leave`
   left : Place
 
--- what came is answered by its own text (nothing that came without one stands in a legal journal)
+-- what came is answered by this text: a message by a post on its channel, a request by a reply
+abbrev pub answer_by : Heard → List ℕ → Call
+answer_by (heard.Message k) text = call.Post k text
+answer_by (heard.Request r) text = call.Reply r text
+
+-- what came is answered by the text that it came with (in a legal journal it came with one)
 abbrev pub asks_answer : Heard → Option (List ℕ) → Next
-asks_answer (heard.Message k) (Some text) = asks (call.Post k text)
-asks_answer (heard.Request r) (Some text) = asks (call.Reply r text)
 asks_answer came None = waits
+asks_answer came (Some text) = asks (answer_by came text)
 
 -- what comes next of what begins so, behind these entries
 abbrev pub next_from : List Entry → Beginning → Next
