@@ -1,6 +1,6 @@
 -- The journal is legal and the tables tell it, one entry later.
 use Rattle.std.proofs.Common.{◌≡◌, ℕ, List, [], ◌∷◌, ◌++◌, length, refl, ap, sym, ◌∙◌, Bool, true, false, cond, not, subst, map}
-use Rattle.std.specs.Prelude.{Option, Some, None, Ok, Err, OnOk, OnErr, is_err, IsTrue, ◌<◌, nat_lt, reverse, slice_get, ◌&&◌, ◌||◌, ◌==◌}
+use Rattle.std.specs.Prelude.{None, Ok, Err, OnOk, OnErr, is_err, ◌<◌, nat_lt, reverse, slice_get, ◌&&◌, ◌==◌}
 use Rattle.std.specs.Option.{option_map}
 use Rattle.std.specs.declared.result.Result.{Result}
 use Rattle.std.proofs.lemmas.Bool.{lt-ltb}
@@ -18,13 +18,13 @@ use Rattle.wx_machine.specs.declared.entries.Who.TheVariants.{Context as ByConte
 use Rattle.wx_machine.specs.declared.entries.Call.{Call}
 use Rattle.wx_machine.specs.declared.entries.Call.TheVariants.{Enter, Listen, Leave, Connect, Post, Disconnect, Send, Reply, Decline, Take}
 use Rattle.wx_machine.specs.declared.entries.Answer.{Answer}
-use Rattle.wx_machine.specs.declared.entries.Answer.TheVariants.{Channel as OnChannel, Request as OnRequest, Gone, NoEffect, Done, First}
+use Rattle.wx_machine.specs.declared.entries.Answer.TheVariants.{Channel as OnChannel, Request as OnRequest, Gone}
 use Rattle.wx_machine.specs.declared.entries.Entry.{Entry}
 use Rattle.wx_machine.specs.Each.{EachAfter}
 use Rattle.wx_machine.specs.Contexts.{contexts, context_of, is_live, is_leave, receivers_of}
-use Rattle.wx_machine.specs.Channels.{Ends, opens, opened_by, channel, channels, ends_by, ends_channel, end_in, is_closed}
-use Rattle.wx_machine.specs.Requests.{Parties, asks, asked_by, request, requests, is_decline, settles_by, ends_request, is_asked, is_settled}
-use Rattle.wx_machine.specs.Answers.{FollowsMachine, gate_for, where_open, where_heard, where_short, at_end, on_request, is_late}
+use Rattle.wx_machine.specs.Channels.{opens, opened_by, ends_channel}
+use Rattle.wx_machine.specs.Requests.{asks, asked_by, requests, is_decline, ends_request}
+use Rattle.wx_machine.specs.Answers.{FollowsMachine, gate_for, where_open, where_heard, where_short}
 use Rattle.wx_port.specs.Port.{Port, opened, closed, left_by as port_left}
 use Rattle.wx_one_shot.specs.Requests.{Request, asked, settled, without, left_by as request_left}
 use Rattle.wx_walks.proofs.Past.{reverse-push}

@@ -1,6 +1,6 @@
 -- The contexts of a legal journal have distinct numbers, and so have the receivers of a call.
-use Rattle.std.proofs.Common.{◌≡◌, ℕ, ◌+◌, ◌<◌, List, [], ◌∷◌, ◌++◌, refl, ap, sym, ◌∙◌, Bool, true, false, cond, not, arith, append-nil}
-use Rattle.std.specs.Prelude.{filter, ◌&&◌, ◌||◌, ◌==◌}
+use Rattle.std.proofs.Common.{◌≡◌, ◌+◌, ◌<◌, List, [], ◌∷◌, ◌++◌, refl, ap, sym, ◌∙◌, Bool, true, false, cond, not, arith, append-nil}
+use Rattle.std.specs.Prelude.{filter, ◌&&◌, ◌||◌}
 use Rattle.std.proofs.lemmas.Bool.{and_parts, true≢false, not-true, false_from_ne_true}
 use Rattle.std.proofs.lemmas.List.Folds.{list_any-append}
 use Rattle.wx_id.specs.declared.numbers.ContextNo.{ContextNo}
@@ -14,7 +14,7 @@ use Rattle.wx_machine.specs.declared.entries.Call.TheVariants.{Enter}
 use Rattle.wx_machine.specs.declared.entries.Answer.{Answer}
 use Rattle.wx_machine.specs.declared.entries.Entry.{Entry}
 use Rattle.wx_machine.specs.Each.{EachAfter}
-use Rattle.wx_machine.specs.Contexts.{same_context, contexts, numbers, numbers_of, enters, brought, is_enter, is_receiver, receivers_of, is_live, reaches_from, context_of, listens_of}
+use Rattle.wx_machine.specs.Contexts.{same_context, contexts, numbers, numbers_of, brought, is_enter, is_receiver, receivers_of, is_live, reaches_from, context_of, listens_of}
 use Rattle.wx_machine.specs.Channels.{is_among}
 use Rattle.wx_machine.specs.Answers.{FollowsMachine, answer_after}
 use Rattle.wx_port.specs.Port.{are_apart}
@@ -66,6 +66,7 @@ numbers_apart world (e ∷ past) legal = ap are_apart (numbers_grow world past e
   where
     fresh : is_among (numbers past) (next past) ≡ false
     fresh = false_from_ne_true _ (λ h. let low : contexts past < contexts past = numbers_below world past legal.0 (next past) h in absurd (omega (arith, low)))
+
     by : are_apart (numbers past) ≡ true → (b : Bool) → are_apart (numbers past ++ cond b (next past ∷ []) []) ≡ true
     by before true = apart_push (numbers past) (next past) before fresh
     by before false = ap are_apart (append-nil (numbers past)) ∙ before

@@ -3,8 +3,8 @@ use Rattle.std.proofs.Common.{◌≡◌, ℕ, ◌+◌, ◌≤◌, List, [], ◌�
 use Rattle.std.specs.Prelude.{Option, Some, None, is_some, filter, slice_get, ◌&&◌, ◌||◌, ◌==◌}
 use Rattle.std.specs.Option.{option_or, option_map}
 use Rattle.std.specs.List.{list_all, list_any}
-use Rattle.std.proofs.lemmas.Bool.{true≢false, false≢true}
-use Rattle.std.proofs.lemmas.Option.{none-some, same_Some, slice_get_past, slice_get-map}
+use Rattle.std.proofs.lemmas.Bool.{false≢true}
+use Rattle.std.proofs.lemmas.Option.{slice_get_past, slice_get-map}
 use Rattle.std.proofs.lemmas.List.Elements.{filter_agree}
 use Rattle.wx_id.specs.declared.numbers.ChannelNo.{ChannelNo}
 use Rattle.wx_id.specs.declared.numbers.ContextNo.{ContextNo}
@@ -19,8 +19,8 @@ use Rattle.wx_machine.specs.declared.entries.Call.TheVariants.{Connect, Disconne
 use Rattle.wx_machine.specs.declared.entries.Answer.{Answer}
 use Rattle.wx_machine.specs.declared.entries.Answer.TheVariants.{Channel as OnChannel, NoEffect, Done, Gone}
 use Rattle.wx_machine.specs.declared.entries.Entry.{Entry}
-use Rattle.wx_machine.specs.Contexts.{is_live, is_leave, is_receiver, receivers_of, numbers, same_context}
-use Rattle.wx_machine.specs.Channels.{Ends, opens, opened_by, channels, channel, is_among, end_in, is_one, has_live, leaving, ends_by, ends_channel, closed_at, is_closed}
+use Rattle.wx_machine.specs.Contexts.{is_live, is_leave, receivers_of, same_context}
+use Rattle.wx_machine.specs.Channels.{Ends, opens, opened_by, channels, channel, is_among, end_in, is_one, leaving, ends_by, ends_channel, closed_at, is_closed}
 use Rattle.wx_machine.specs.Answers.{at_end}
 use Rattle.wx_port.specs.Port.{Port, is_other, end_of, is_open_port, closed, with_live, opened, left_by}
 use Rattle.wx_walks.proofs.EndsLater.{channels_more, channel_more}
@@ -153,25 +153,31 @@ channels_disconnected past c j answer ports ports' answered changed has k =
   where
     e : Entry
     e = disconnect_entry c j answer
+
     done : is_done answer ≡ (is_one (end_in (channel past j.0) c) && is_live past c && not (is_closed past j.0))
     done = ap is_done answered ∙ done_is (is_live past c) (is_closed past j.0) (end_in (channel past j.0) c)
+
     row : (ends : Ends) (live : List ContextNo) (w x : Bool) → cond (x && not w) (closed (made ends live w)) (made ends live w) ≡ made ends live (w || x)
     row ends live true true = refl
     row ends live true false = refl
     row ends live false true = refl
     row ends live false false = refl
+
     other : (ends : Ends) (live : List ContextNo) (w d x : Bool) → cond (d && false) (closed (made ends live w)) (made ends live w) ≡ made ends live (w || (false && x))
     other ends live true true x = refl
     other ends live true false x = refl
     other ends live false true x = refl
     other ends live false false x = refl
+
     said : (k' : ℕ) (ends : Ends) → channel past k' ≡ Some ends → port_said (e ∷ past) k' ends ≡ made ends (filter (is_live past) ends.receivers) (is_closed past k' || (((j.0 == k') && is_one (end_in (Some ends) c)) && is_live past c))
     said k' ends at = made_same ends _ _ _ _ (lives_stay e past k' ends refl at) (closed_more e past k' ∙ ap (λ o. is_closed past k' || ends_by past e k' o (ByContext c) (Disconnect j)) at)
+
     each : (k' : ℕ) (ends : Ends) → channel past k' ≡ Some ends → cond (is_done answer && (j.0 == k')) (closed (port_said past k' ends)) (port_said past k' ends) ≡ port_said (e ∷ past) k' ends
     each k' ends at = by (j.0 == k') refl ∙ sym (said k' ends at)
       where
         live : List ContextNo
         live = filter (is_live past) ends.receivers
+
         by : (b : Bool) → (j.0 == k') ≡ b → cond (is_done answer && b) (closed (made ends live (is_closed past k'))) (made ends live (is_closed past k')) ≡ made ends live (is_closed past k' || ((b && is_one (end_in (Some ends) c)) && is_live past c))
         by true same =
             let here : is_done answer ≡ (is_one (end_in (Some ends) c) && is_live past c && not (is_closed past k')) =
@@ -191,11 +197,14 @@ row_left c ends live live' law false = by (same_context ends.opener c) refl (is_
   where
     fewer : filter (is_other c) (filter live ends.receivers) ≡ filter live' ends.receivers
     fewer = filter_twice (is_other c) live ends.receivers ∙ sym (filter_agree live' (λ d. live d && is_other c d) law ends.receivers)
+
     stay : is_among ends.receivers c ≡ false → filter live ends.receivers ≡ filter live' ends.receivers
     stay none = filter_where (is_other c) live live' (λ d h. sym (law d ∙ ap (λ b. live d && b) h ∙ and_true (live d))) ends.receivers (all_fail (λ d. same_context d c) ends.receivers none)
+
     lasts : (xs : List ContextNo) → with_live (made ends (filter live ends.receivers) false) xs ≡ made ends xs (not (has_some xs))
     lasts [] = refl
     lasts (x ∷ xs) = refl
+
     by : (s : Bool) → same_context ends.opener c ≡ s → (a : Bool) → is_among ends.receivers c ≡ a → left_by c (made ends (filter live ends.receivers) false) ≡ made ends (filter live' ends.receivers) (leaving (end_in (Some ends) c) (list_any live' ends.receivers))
     by true same a among = rw same refl
     by false same true among = rw (same, among, fewer, any_passes live' ends.receivers) (lasts (filter live' ends.receivers))
@@ -209,6 +218,7 @@ channels_left past c answer ports has k =
   where
     e : Entry
     e = leave_entry c answer
+
     each : (k' : ℕ) (ends : Ends) → channel past k' ≡ Some ends → left_by c (port_said past k' ends) ≡ port_said (e ∷ past) k' ends
     each k' ends at =
         row_left c ends (is_live past) (is_live (e ∷ past)) (live_left c answer past) (is_closed past k')

@@ -3,7 +3,7 @@ use Rattle.std.proofs.Common.{◌≡◌, ℕ, ◌+◌, ◌≤◌, List, [], ◌�
 use Rattle.std.specs.Prelude.{Option, Some, None, IfSome, is_some, filter, slice_get, ◌&&◌, ◌||◌, ◌==◌, nat_lt}
 use Rattle.std.specs.Option.{option_or, option_map}
 use Rattle.std.specs.List.{list_all, list_any}
-use Rattle.std.proofs.lemmas.Bool.{and_parts, not-true, true≢false, false≢true}
+use Rattle.std.proofs.lemmas.Bool.{and_parts, not-true, false≢true}
 use Rattle.std.proofs.lemmas.Option.{slice_get_past, slice_get-map}
 use Rattle.std.proofs.lemmas.List.Elements.{filter_agree}
 use Rattle.wx_id.specs.declared.numbers.RequestNo.{RequestNo}
@@ -15,10 +15,10 @@ use Rattle.wx_machine.specs.declared.entries.Who.TheVariants.{Context as ByConte
 use Rattle.wx_machine.specs.declared.entries.Call.{Call}
 use Rattle.wx_machine.specs.declared.entries.Call.TheVariants.{Leave, Send, Reply, Decline}
 use Rattle.wx_machine.specs.declared.entries.Answer.{Answer}
-use Rattle.wx_machine.specs.declared.entries.Answer.TheVariants.{Request as OnRequest, First, Done, Gone, Late as TooLate, NotYours, TooLong}
+use Rattle.wx_machine.specs.declared.entries.Answer.TheVariants.{Request as OnRequest, First, Done, Gone, TooLong}
 use Rattle.wx_machine.specs.declared.entries.Entry.{Entry}
 use Rattle.wx_machine.specs.declared.entries.TheConstants.{LONGEST}
-use Rattle.wx_machine.specs.Contexts.{is_live, is_leave, is_receiver, receivers_of, numbers, same_context}
+use Rattle.wx_machine.specs.Contexts.{is_live, is_leave, receivers_of, same_context}
 use Rattle.wx_machine.specs.Channels.{is_among}
 use Rattle.wx_machine.specs.Requests.{Parties, asks, asked_by, requests, request, is_asked, is_decline, has_declined, is_open_to, has_open, settles_by, ends_request, settled_at, is_settled}
 use Rattle.wx_machine.specs.Answers.{on_request, is_late, where_short}
@@ -179,27 +179,34 @@ requests_replied past c j text answer rows rows' answered changed has r =
   where
     e : Entry
     e = reply_entry c j text answer
+
     long : Bool
     long = nat_lt LONGEST (length text)
+
     first : is_first answer ≡ (is_asked (request past j.0) c && is_open_to past j.0 c && not long && not (is_settled past j.0))
     first = ap is_first answered ∙ first_is (is_live past c) (is_asked (request past j.0) c) (is_settled past j.0) (has_declined past j.0 c) long
+
     row : (parties : Parties) (left : List ContextNo) (w x : Bool) → cond ((x && not w) && true) (settled (made parties left w)) (made parties left w) ≡ made parties left (w || x)
     row parties left true true = refl
     row parties left true false = refl
     row parties left false true = refl
     row parties left false false = refl
+
     other : (parties : Parties) (left : List ContextNo) (w f : Bool) → cond (f && false) (settled (made parties left w)) (made parties left w) ≡ made parties left (w || false)
     other parties left true true = refl
     other parties left true false = refl
     other parties left false true = refl
     other parties left false false = refl
+
     each : (r' : ℕ) (parties : Parties) → request past r' ≡ Some parties → cond (is_first answer && (j.0 == r')) (settled (request_said past r' parties)) (request_said past r' parties) ≡ request_said (e ∷ past) r' parties
     each r' parties at = by (j.0 == r') refl ∙ sym said
       where
         left : List ContextNo
         left = filter (is_open_to past r') parties.receivers
+
         said : request_said (e ∷ past) r' parties ≡ made parties left (is_settled past r' || ((j.0 == r') && is_asked (Some parties) c && is_open_to past r' c && not long))
         said = made_same parties _ _ _ _ (open_stays e past r' parties refl refl at) (settled_more e past r' ∙ ap (λ o. is_settled past r' || settles_by past e r' o (ByContext c) (Reply j text)) at)
+
         by : (b : Bool) → (j.0 == r') ≡ b → cond (is_first answer && b) (settled (made parties left (is_settled past r'))) (made parties left (is_settled past r')) ≡ made parties left (is_settled past r' || (b && is_asked (Some parties) c && is_open_to past r' c && not long))
         by true same =
             let here : is_first answer ≡ (is_asked (Some parties) c && is_open_to past r' c && not long && not (is_settled past r')) =
@@ -223,8 +230,10 @@ row_left c parties may may' law false = by (same_context parties.asker c) refl (
   where
     fewer : filter (is_other c) (filter may parties.receivers) ≡ filter may' parties.receivers
     fewer = filter_twice (is_other c) may parties.receivers ∙ sym (filter_agree may' (λ d. may d && is_other c d) law parties.receivers)
+
     stay : is_among parties.receivers c ≡ false → filter may parties.receivers ≡ filter may' parties.receivers
     stay none = filter_where (is_other c) may may' (λ d h. sym (law d ∙ ap (λ b. may d && b) h ∙ and_true (may d))) parties.receivers (all_fail (λ d. same_context d c) parties.receivers none)
+
     by : (s : Bool) → same_context parties.asker c ≡ s → (a : Bool) → is_among parties.receivers c ≡ a → left_by c (made parties (filter may parties.receivers) false) ≡ made parties (filter may' parties.receivers) (same_context parties.asker c || (is_among parties.receivers c && not (list_any may' parties.receivers)))
     by true same a among = rw same refl
     by false same true among = rw (same, among, fewer, any_passes may' parties.receivers) (lasts parties (filter may parties.receivers) (filter may' parties.receivers))
@@ -252,6 +261,7 @@ requests_left past c answer rows has r =
   where
     e : Entry
     e = leave_entry c answer
+
     each : (r' : ℕ) (parties : Parties) → request past r' ≡ Some parties → left_by c (request_said past r' parties) ≡ request_said (e ∷ past) r' parties
     each r' parties at =
         row_left c parties (is_open_to past r') (is_open_to (e ∷ past) r') (open_left c answer past r') (is_settled past r')
@@ -301,30 +311,36 @@ open_declined past c j answer r parties same at =
   where
     e : Entry
     e = decline_entry c j answer
+
     fewer : Bool → Bool → ContextNo → Bool
     fewer is live d = is_live past d && not (has_declined past r d || (same_context c d && live && is))
+
     now : (d : ContextNo) → came past d ≡ true → is_open_to (e ∷ past) r d ≡ fewer (is_among parties.receivers c) (is_live past c) d
     now d h =
         ap (λ b. b && not (has_declined (e ∷ past) r d)) (live_stays e past d refl h)
         ∙ ap (λ b. is_live past d && not (has_declined past r d || (b && same_context c d && is_live past d && is_asked (request past r) d))) same
         ∙ ap (λ o. is_live past d && not (has_declined past r d || (same_context c d && is_live past d && is_asked o d))) at
         ∙ ap (λ b. is_live past d && not (has_declined past r d || b)) (exchange (is_live past) (is_among parties.receivers) c d)
+
     kept : (l w s : Bool) → (l && not (w || (s && true && true))) ≡ ((l && not w) && not s)
     kept true true s = refl
     kept true false true = refl
     kept true false false = refl
     kept false w s = refl
+
     none : (l w s b : Bool) → (l && not (w || (s && b && false))) ≡ (l && not w)
     none true true s b = refl
     none true false true true = refl
     none true false true false = refl
     none true false false b = refl
     none false w s b = refl
+
     dead : (l w s b : Bool) → (l && not (w || (s && false && b))) ≡ (l && not w)
     dead true true s b = refl
     dead true false true b = refl
     dead true false false b = refl
     dead false w s b = refl
+
     by : (is live : Bool) → filter (fewer is live) parties.receivers ≡ cond (is && live) (filter (is_other c) (filter (is_open_to past r) parties.receivers)) (filter (is_open_to past r) parties.receivers)
     by true true =
         filter_agree (fewer true true) (λ d. is_open_to past r d && is_other c d) (λ d. kept (is_live past d) (has_declined past r d) (same_context c d) ∙ ap (λ b. is_open_to past r d && not b) (same_back c.0 d.0)) parties.receivers
@@ -347,8 +363,10 @@ requests_declined past c j answer rows rows' answered changed has awaited r =
   where
     e : Entry
     e = decline_entry c j answer
+
     done : is_done answer ≡ (is_asked (request past j.0) c && is_open_to past j.0 c && not (is_settled past j.0))
     done = ap is_done answered ∙ done_is (is_live past c) (is_asked (request past j.0) c) (is_settled past j.0) (has_declined past j.0 c)
+
     each : (r' : ℕ) (parties : Parties) → request past r' ≡ Some parties → cond (is_done answer && (j.0 == r')) (without c (request_said past r' parties)) (request_said past r' parties) ≡ request_said (e ∷ past) r' parties
     each r' parties at = by (j.0 == r') refl
       where
@@ -412,14 +430,17 @@ answered_on past rows r c x has = by (is_live past c) refl
     late true false true = refl
     late true false false = refl
     late false w d = refl
+
     left : (parties : Parties) → is_live past c ≡ true → (w : Bool) → (not w && is_among (cond w [] (filter (is_open_to past r) parties.receivers)) c) ≡ (not w && (not (has_declined past r c) && is_among parties.receivers c))
     left parties live true = refl
     left parties live false = among_passing (is_open_to past r) parties.receivers c ∙ ap (λ b. b && not (has_declined past r c) && is_among parties.receivers c) live
+
     at : is_live past c ≡ true → (o : Option Parties) → on_standing (standing_at (option_map (request_said past r) o) c) x ≡ on_request (is_asked o c) (is_late past r c) x
     at live None = refl
     at live (Some parties) =
         ap (λ b. on_standing (cond (is_among parties.receivers c) (cond b Open Late) Stranger) x) (left parties live (is_settled past r))
         ∙ late (is_among parties.receivers c) (is_settled past r) (has_declined past r c)
+
     by : (b : Bool) → is_live past c ≡ b → cond b (on_standing (standing_at (slice_get rows r) c) x) Gone ≡ cond b (on_request (is_asked (request past r) c) (is_late past r c) x) Gone
     by true live = ap (λ o. on_standing (standing_at o c) x) (has r) ∙ at live (request past r)
     by false live = refl

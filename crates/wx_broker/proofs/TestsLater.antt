@@ -1,6 +1,6 @@
 -- Lists under tests, and lists by place.
-use Rattle.std.proofs.Common.{◌≡◌, ℕ, suc, zero, ◌+◌, List, [], ◌∷◌, ◌++◌, length, set, refl, ap, sym, ◌∙◌, Bool, true, false, cond, not, arith, map}
-use Rattle.std.specs.Prelude.{Option, Some, None, IfSome, is_some, slice_get, filter, ◌&&◌, ◌||◌, ◌==◌, option_to_list}
+use Rattle.std.proofs.Common.{◌≡◌, ℕ, suc, zero, List, [], ◌∷◌, ◌++◌, length, set, refl, ap, sym, ◌∙◌, Bool, true, false, cond, not, arith}
+use Rattle.std.specs.Prelude.{Option, Some, None, IfSome, is_some, slice_get, filter, ◌&&◌, ◌||◌, ◌==◌}
 use Rattle.std.specs.Option.{option_map}
 use Rattle.std.specs.List.{list_all, list_any}
 use Rattle.std.proofs.lemmas.Bool.{and_parts, true≢false, false≢true}
@@ -135,6 +135,7 @@ rows_more {A} {B} old new xs x rows rows' row grown same last has k =
     at : (o : Option A) → slice_get xs k ≡ o → option_map (old k) o ≡ option_map (new k) o
     at None e = refl
     at (Some y) e = ap Some (same k y e)
+
     by : (b : Bool) → (length xs == k) ≡ b → cond (b && true) (Some row) (slice_get rows k) ≡ cond (b && true) (Some (new k x)) (option_map (new k) (slice_get xs k))
     by true e = ap Some (last ∙ ap (λ n. new n x) (same_is (length xs) k e))
     by false e = has k ∙ at (slice_get xs k) refl

@@ -1,5 +1,5 @@
 -- How the tables of channels and requests tell a journal.
-use Rattle.std.specs.Prelude.{◌≡◌, ℕ, length, List, [], Bool, true, false, not, ◌&&◌, cond, reverse, filter, slice_get, IfSome, ◌==◌}
+use Rattle.std.specs.Prelude.{◌≡◌, ℕ, length, List, [], Bool, true, false, not, cond, reverse, filter, slice_get, IfSome, ◌==◌}
 use Rattle.std.specs.Option.{option_map}
 use Rattle.wx_external.specs.World.{WorldLists}
 use Rattle.wx_machine.specs.declared.entries.Call.{Call}

@@ -50,7 +50,13 @@ fn where_open(verdict: Verdict, answer: Answer) -> Answer
 }
 
 /// That answer, where the target has a receiver.
-fn where_heard(entries: &[Entry], c: ContextNo, target: &Target, sort: Sort, answer: Answer) -> Answer
+fn where_heard(
+    entries: &[Entry],
+    c: ContextNo,
+    target: &Target,
+    sort: Sort,
+    answer: Answer,
+) -> Answer
     ensures { result ≡ where_heard (receivers_of (reverse entries.now) c target.now sort) answer }
 {
     if contexts::has_receiver(entries, c, target, sort) {
@@ -96,13 +102,7 @@ pub fn connect(
 }
 
 /// The answer to a post.
-pub fn post(
-    entries: &[Entry],
-    ports: &Ports,
-    c: ContextNo,
-    k: ChannelNo,
-    text: &JsonText,
-) -> Answer
+pub fn post(entries: &[Entry], ports: &Ports, c: ContextNo, k: ChannelNo, text: &JsonText) -> Answer
     requires { HasChannels (reverse entries.now) ports.now }
     ensures { result ≡ cond (is_live (reverse entries.now) c) (at_end (end_in (channel (reverse entries.now) k.0) c) (is_closed (reverse entries.now) k.0) Answer.PortClosed (where_short text.now Answer.Posted)) Answer.Gone }
 {

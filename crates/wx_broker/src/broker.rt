@@ -6,15 +6,14 @@ ghost use Rattle.wx_broker.specs.Carried.{is_event};
 ghost use Rattle.wx_broker.specs.Steps.{Appends, Stays};
 ghost use Rattle.wx_broker.specs.Tables.{is_channel, is_request, is_quiet};
 
-use crate::answers;
 use crate::carried::{entered, port_name, posted, replied, sent};
-use crate::tables;
+use crate::{answers, tables};
 use std::alloc::Global;
 use std::marker::Model;
-use wx_id::{ChannelNo, ContextNo, NoMemory, RequestNo, Utf8Text};
-use wx_journal::Journal;
 use wx_context::{Context, Listens, Target};
 use wx_external::World;
+use wx_id::{ChannelNo, ContextNo, NoMemory, RequestNo, Utf8Text};
+use wx_journal::Journal;
 use wx_machine::{Answer, Call, Entry, JsonText, Who};
 use wx_one_shot::Requests;
 use wx_port::Ports;
@@ -184,7 +183,15 @@ impl Broker {
         if self.journal.reserve(1).is_err() {
             return Err(name);
         }
-        if tables::open(&mut self.ports, self.alloc, self.journal.entries(), c, &target).is_err() {
+        if tables::open(
+            &mut self.ports,
+            self.alloc,
+            self.journal.entries(),
+            c,
+            &target,
+        )
+        .is_err()
+        {
             return Err(name);
         }
         let e = Entry {
@@ -251,7 +258,14 @@ impl Broker {
         ensures room { 0 < self.old.spare → OnErr result (IsTrue (is_request (answer_of self.old.world self.old.entries (Who.Context c) (Call.Send target text)))) }
         ensures spare { self.old.spare ≤ self.new.spare + 1 }
     {
-        let answer = answers::send(&self.world, self.journal.entries(), &self.requests, c, &target, &text);
+        let answer = answers::send(
+            &self.world,
+            self.journal.entries(),
+            &self.requests,
+            c,
+            &target,
+            &text,
+        );
         if answers::is_request(answer) {
             return self.ask(c, target, text, answer);
         }
@@ -284,7 +298,15 @@ impl Broker {
         if self.journal.reserve(1).is_err() {
             return Err(text);
         }
-        if tables::ask(&mut self.requests, self.alloc, self.journal.entries(), c, &target).is_err() {
+        if tables::ask(
+            &mut self.requests,
+            self.alloc,
+            self.journal.entries(),
+            c,
+            &target,
+        )
+        .is_err()
+        {
             return Err(text);
         }
         let e = Entry {

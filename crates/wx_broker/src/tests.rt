@@ -2,9 +2,9 @@ use crate::Broker;
 use std::alloc::Global;
 use std::process::Abort;
 use std::test::Fail;
-use wx_id::{ChannelNo, ContextNo, EntryNo, Event, EventKind, ExtensionId, RequestNo, Utf8Text};
 use wx_context::{Context, Listens, PagePath, Target};
 use wx_external::World;
+use wx_id::{ChannelNo, ContextNo, EntryNo, Event, EventKind, ExtensionId, RequestNo, Utf8Text};
 use wx_machine::{Answer, JsonText};
 
 /// A call of a worked example.

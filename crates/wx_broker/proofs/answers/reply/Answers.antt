@@ -1,4 +1,4 @@
-use Rattle.std.proofs.Common.{◌≡◌, true, cond, sym, ap, ◌∙◌}
+use Rattle.std.proofs.Common.{◌≡◌, true, cond, sym, ◌∙◌}
 use Rattle.std.specs.Prelude.{reverse, slice_get}
 use Rattle.wx_machine.specs.declared.entries.Answer.TheVariants.{First, Gone}
 use Rattle.wx_machine.specs.Contexts.{is_live}
