@@ -25,7 +25,7 @@ use Rattle.wx_machine.specs.Answers.{at_end}
 use Rattle.wx_port.specs.Port.{Port, is_other, end_of, is_open_port, closed, with_live, opened, left_by}
 use Rattle.wx_walks.proofs.EndsLater.{channels_more, channel_more}
 use Rattle.wx_broker.specs.Tables.{port_said, HasChannels, is_done}
-use Rattle.wx_broker.proofs.TestsLater.{or_false, and_true, not_not, same_is, has_some, any_passes, filter_where, filter_whole, filter_twice, all_weaker, all_fail, rows_length, rows_changed, rows_more, map_whole}
+use Rattle.wx_broker.proofs.TestsLater.{or_false, and_true, not_not, same_is, has_some, any_passes, filter_where, filter_whole, filter_twice, all_weaker, all_fail, rows_length, rows_changed, rows_more, map_whole, shorter}
 use Rattle.wx_broker.proofs.LivesLater.{came, came_stays, live_came, live_stays, live_left, leave_entry, receivers_live}
 
 -- whether channel k is closed after one more entry
@@ -103,10 +103,6 @@ none_ends past e k (ByContext c) (Disconnect j) = by (j.0 == k)
     by true = refl
     by false = refl
 none_ends past e k who call = refl
-
-shorter : (b : Bool) (m n k : ℕ) → n ≡ cond b (m + 1) m → n ≤ k → m ≤ k
-shorter true m n k e h = omega (arith, e, h)
-shorter false m n k e h = omega (arith, e, h)
 
 closed_later : (past : List Entry) (k : ℕ) → length (channels past) ≤ k → is_closed past k ≡ false
 closed_later [] k h = refl

@@ -27,7 +27,7 @@ use Rattle.wx_one_shot.specs.Requests.{Request, asked, settled, is_other, left_t
 use Rattle.wx_walks.proofs.EndsLater.{place_more, same_context_is}
 use Rattle.wx_walks.proofs.RequestsLater.{requests_more}
 use Rattle.wx_broker.specs.Tables.{request_said, HasRequests, AreAwaited, is_done, is_first, on_standing}
-use Rattle.wx_broker.proofs.TestsLater.{or_false, and_false, and_true, same_back, same_self, same_is, has_some, nil_test, any_passes, filter_where, filter_whole, filter_twice, all_weaker, all_fail, rows_length, rows_changed, rows_more, map_whole}
+use Rattle.wx_broker.proofs.TestsLater.{or_false, and_false, and_true, same_back, same_self, same_is, has_some, nil_test, any_passes, filter_where, filter_whole, filter_twice, all_weaker, all_fail, rows_length, rows_changed, rows_more, map_whole, shorter}
 use Rattle.wx_broker.proofs.LivesLater.{came, came_stays, live_came, live_stays, live_left, leave_entry, among_passing, receivers_live}
 
 -- whether request r is settled after one more entry
@@ -113,10 +113,6 @@ none_settles past e r (ByContext c) (Decline j) = by (j.0 == r)
     by true = refl
     by false = refl
 none_settles past e r who call = refl
-
-shorter : (b : Bool) (m n k : ℕ) → n ≡ cond b (m + 1) m → n ≤ k → m ≤ k
-shorter true m n k e h = omega (arith, e, h)
-shorter false m n k e h = omega (arith, e, h)
 
 earlier : (e : Entry) (past : List Entry) (r : ℕ) → length (requests (e ∷ past)) ≤ r → length (requests past) ≤ r
 earlier e past r h = shorter (is_some (asks past e)) (length (requests past)) (length (requests (e ∷ past))) r (requests_more e past) h

@@ -1,5 +1,5 @@
 -- Lists under tests, and lists by place.
-use Rattle.std.proofs.Common.{◌≡◌, ℕ, suc, zero, List, [], ◌∷◌, ◌++◌, length, set, refl, ap, sym, ◌∙◌, Bool, true, false, cond, not, arith}
+use Rattle.std.proofs.Common.{◌≡◌, ℕ, suc, zero, ◌+◌, ◌≤◌, List, [], ◌∷◌, ◌++◌, length, set, refl, ap, sym, ◌∙◌, Bool, true, false, cond, not, arith}
 use Rattle.std.specs.Prelude.{Option, Some, None, IfSome, is_some, slice_get, filter, ◌&&◌, ◌||◌, ◌==◌}
 use Rattle.std.specs.Option.{option_map}
 use Rattle.std.specs.List.{list_all, list_any}
@@ -41,6 +41,11 @@ suc_zero n = grind (arith, nat_tests)
 
 suc_suc : (m n : ℕ) → (suc m == suc n) ≡ (m == n)
 suc_suc m n = grind (arith, nat_tests)
+
+-- what is at most k long with one more element, if it has one, is so without
+pub shorter : (b : Bool) (m n k : ℕ) → n ≡ cond b (m + 1) m → n ≤ k → m ≤ k
+shorter true m n k e h = omega (arith, e, h)
+shorter false m n k e h = omega (arith, e, h)
 
 -- the list has an element
 abbrev pub has_some : {X : Type 0} → List X → Bool
