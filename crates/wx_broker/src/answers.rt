@@ -1,16 +1,21 @@
-//! The machine's answers, found by walking the journal.
-ghost use Rattle.std.specs.Prelude.{◌≡◌, cond, length, option_copied, reverse};
+//! The machine's answers. Channels and requests are found in their tables, the rest by walking the journal.
+ghost use Rattle.std.specs.Prelude.{◌≡◌, cond, length, not, option_copied, reverse, slice_get};
 ghost use Rattle.wx_machine.specs.Contexts.{context_of, is_live, receivers_of};
 ghost use Rattle.wx_machine.specs.Channels.{channels, channel, end_in, is_closed};
 ghost use Rattle.wx_machine.specs.Requests.{requests, request, is_asked};
 ghost use Rattle.wx_machine.specs.Events.{pending, first};
+ghost use Rattle.wx_port.specs.Port.{end_of, is_open_port};
+ghost use Rattle.wx_one_shot.specs.Requests.{standing_at};
+ghost use Rattle.wx_broker.specs.Tables.{HasChannels, HasRequests, is_channel, is_request, is_done, is_first, on_standing};
 ghost use Rattle.wx_machine.specs.Answers.{at_end, gate_for, on_request, is_late, told_or_empty, where_heard, where_open, where_short};
 
 use wx_context::{Context, Target};
 use wx_external::{Verdict, World, gate};
 use wx_id::{ChannelNo, ContextNo, End, RequestNo};
 use wx_machine::{Answer, Entry, JsonText, LONGEST, Sort};
-use wx_walks::{channels, closing, contexts, events, requests};
+use wx_one_shot::{Requests, Standing};
+use wx_port::Ports;
+use wx_walks::{contexts, events};
 
 /// The answer to a call that needs only a live caller.
 pub fn done_if_live(entries: &[Entry], c: ContextNo) -> Answer
@@ -45,7 +50,13 @@ fn where_open(verdict: Verdict, answer: Answer) -> Answer
 }
 
 /// That answer, where the target has a receiver.
-fn where_heard(entries: &[Entry], c: ContextNo, target: &Target, sort: Sort, answer: Answer) -> Answer
+fn where_heard(
+    entries: &[Entry],
+    c: ContextNo,
+    target: &Target,
+    sort: Sort,
+    answer: Answer,
+) -> Answer
     ensures { result ≡ where_heard (receivers_of (reverse entries.now) c target.now sort) answer }
 {
     if contexts::has_receiver(entries, c, target, sort) {
@@ -76,22 +87,30 @@ fn to_target(
 }
 
 /// The answer to a connect.
-pub fn connect(world: &World, entries: &[Entry], c: ContextNo, target: &Target) -> Answer
+pub fn connect(
+    world: &World,
+    entries: &[Entry],
+    ports: &Ports,
+    c: ContextNo,
+    target: &Target,
+) -> Answer
+    requires { HasChannels (reverse entries.now) ports.now }
     ensures { result ≡ cond (is_live (reverse entries.now) c) (where_open (gate_for world.now (context_of (reverse entries.now) c) target.now) (where_heard (receivers_of (reverse entries.now) c target.now Sort.Connection) (Answer.Channel (record { 0 = length (channels (reverse entries.now)) })))) Answer.Gone }
 {
-    let opened = Answer::Channel(ChannelNo(channels::count(entries)));
+    let opened = Answer::Channel(ChannelNo(ports.count()));
     to_target(world, entries, c, target, Sort::Connection, opened)
 }
 
 /// The answer to a post.
-pub fn post(entries: &[Entry], c: ContextNo, k: ChannelNo, text: &JsonText) -> Answer
+pub fn post(entries: &[Entry], ports: &Ports, c: ContextNo, k: ChannelNo, text: &JsonText) -> Answer
+    requires { HasChannels (reverse entries.now) ports.now }
     ensures { result ≡ cond (is_live (reverse entries.now) c) (at_end (end_in (channel (reverse entries.now) k.0) c) (is_closed (reverse entries.now) k.0) Answer.PortClosed (where_short text.now Answer.Posted)) Answer.Gone }
 {
     if !contexts::is_live(entries, c) {
         return Answer::Gone;
     }
     on_channel(
-        entries,
+        ports,
         c,
         k,
         Answer::PortClosed,
@@ -100,47 +119,58 @@ pub fn post(entries: &[Entry], c: ContextNo, k: ChannelNo, text: &JsonText) -> A
 }
 
 /// The answer to a disconnect.
-pub fn disconnect(entries: &[Entry], c: ContextNo, k: ChannelNo) -> Answer
+pub fn disconnect(entries: &[Entry], ports: &Ports, c: ContextNo, k: ChannelNo) -> Answer
+    requires { HasChannels (reverse entries.now) ports.now }
     ensures { result ≡ cond (is_live (reverse entries.now) c) (at_end (end_in (channel (reverse entries.now) k.0) c) (is_closed (reverse entries.now) k.0) Answer.NoEffect Answer.Done) Answer.Gone }
 {
     if !contexts::is_live(entries, c) {
         return Answer::Gone;
     }
-    on_channel(entries, c, k, Answer::NoEffect, Answer::Done)
+    on_channel(ports, c, k, Answer::NoEffect, Answer::Done)
 }
 
 /// The answer to a send.
 pub fn send(
     world: &World,
     entries: &[Entry],
+    rows: &Requests,
     c: ContextNo,
     target: &Target,
     text: &JsonText,
 ) -> Answer
+    requires { HasRequests (reverse entries.now) rows.now }
     ensures { result ≡ cond (is_live (reverse entries.now) c) (where_open (gate_for world.now (context_of (reverse entries.now) c) target.now) (where_heard (receivers_of (reverse entries.now) c target.now Sort.Message) (where_short text.now (Answer.Request (record { 0 = length (requests (reverse entries.now)) }))))) Answer.Gone }
 {
-    let asked = where_short(text, Answer::Request(RequestNo(requests::count(entries))));
+    let asked = where_short(text, Answer::Request(RequestNo(rows.count())));
     to_target(world, entries, c, target, Sort::Message, asked)
 }
 
 /// The answer to a reply.
-pub fn reply(entries: &[Entry], c: ContextNo, r: RequestNo, text: &JsonText) -> Answer
+pub fn reply(
+    entries: &[Entry],
+    rows: &Requests,
+    c: ContextNo,
+    r: RequestNo,
+    text: &JsonText,
+) -> Answer
+    requires { HasRequests (reverse entries.now) rows.now }
     ensures { result ≡ cond (is_live (reverse entries.now) c) (on_request (is_asked (request (reverse entries.now) r.0) c) (is_late (reverse entries.now) r.0 c) (where_short text.now Answer.First)) Answer.Gone }
 {
     if !contexts::is_live(entries, c) {
         return Answer::Gone;
     }
-    on_request(entries, c, r, where_short(text, Answer::First))
+    on_request(rows, c, r, where_short(text, Answer::First))
 }
 
 /// The answer to a decline.
-pub fn decline(entries: &[Entry], c: ContextNo, r: RequestNo) -> Answer
+pub fn decline(entries: &[Entry], rows: &Requests, c: ContextNo, r: RequestNo) -> Answer
+    requires { HasRequests (reverse entries.now) rows.now }
     ensures { result ≡ cond (is_live (reverse entries.now) c) (on_request (is_asked (request (reverse entries.now) r.0) c) (is_late (reverse entries.now) r.0 c) Answer.Done) Answer.Gone }
 {
     if !contexts::is_live(entries, c) {
         return Answer::Gone;
     }
-    on_request(entries, c, r, Answer::Done)
+    on_request(rows, c, r, Answer::Done)
 }
 
 /// The answer to a take.
@@ -158,34 +188,60 @@ pub fn take(entries: &[Entry], c: ContextNo) -> Answer
 
 /// The answer on a channel: to one that is no end of it, where it is closed, and where it is open.
 fn on_channel(
-    entries: &[Entry],
+    ports: &Ports,
     c: ContextNo,
     k: ChannelNo,
     on_closed: Answer,
     on_open: Answer,
 ) -> Answer
-    ensures { result ≡ at_end (end_in (channel (reverse entries.now) k.0) c) (is_closed (reverse entries.now) k.0) on_closed on_open }
+    ensures { result ≡ at_end (end_of (slice_get ports.now k.0) c) (not (is_open_port (slice_get ports.now k.0))) on_closed on_open }
 {
-    if channels::end_of(entries, k, c) == End::Neither {
+    if ports.end(k, c) == End::Neither {
         Answer::NoPort
-    } else if closing::is_closed(entries, k) {
-        on_closed
-    } else {
+    } else if ports.is_open(k) {
         on_open
+    } else {
+        on_closed
     }
 }
 
 /// The answer on a request: to one whom it was not sent to, where it is too late, and else.
-fn on_request(entries: &[Entry], c: ContextNo, r: RequestNo, answer: Answer) -> Answer
-    ensures { result ≡ on_request (is_asked (request (reverse entries.now) r.0) c) (is_late (reverse entries.now) r.0 c) answer }
+fn on_request(rows: &Requests, c: ContextNo, r: RequestNo, answer: Answer) -> Answer
+    ensures { result ≡ on_standing (standing_at (slice_get rows.now r.0) c) answer }
 {
-    if !requests::is_asked(entries, r, c) {
-        Answer::NotYours
-    } else if requests::is_settled(entries, r) || requests::has_declined(entries, r, c) {
-        Answer::Late
-    } else {
-        answer
+    match rows.standing(r, c) {
+        Standing::Stranger => Answer::NotYours,
+        Standing::Late => Answer::Late,
+        Standing::Open => answer,
     }
+}
+
+/// Whether a channel was opened.
+pub fn is_channel(answer: Answer) -> bool
+    ensures { result ≡ is_channel answer }
+{
+    matches!(answer, Answer::Channel(_))
+}
+
+/// Whether a request was made.
+pub fn is_request(answer: Answer) -> bool
+    ensures { result ≡ is_request answer }
+{
+    matches!(answer, Answer::Request(_))
+}
+
+/// Whether the call was made.
+pub fn is_done(answer: Answer) -> bool
+    ensures { result ≡ is_done answer }
+{
+    matches!(answer, Answer::Done)
+}
+
+/// Whether the reply was the first.
+pub fn is_first(answer: Answer) -> bool
+    ensures { result ≡ is_first answer }
+{
+    matches!(answer, Answer::First)
 }
 
 /// That answer, unless the text is too long.

@@ -1,38 +1,44 @@
-ghost use Rattle.std.specs.Prelude.{◌≡◌, ◌+◌, ◌<◌, ◌≤◌, IsOk, reverse, [], OnErr, IfOk, IfErr};
+ghost use Rattle.std.specs.Prelude.{◌≡◌, ◌+◌, ◌<◌, ◌≤◌, IsOk, IsTrue, reverse, [], ◌∷◌, ◌++◌, OnErr, OnOk, IfOk, IfErr};
 ghost use Rattle.wx_machine.specs.Contexts.{contexts};
-ghost use Rattle.wx_machine.specs.Answers.{answer_of, IsLegal};
+ghost use Rattle.wx_machine.specs.Answers.{answer_of, FollowsMachine, IsLegal};
 ghost use Rattle.wx_machine.specs.Events.{has_pending};
 ghost use Rattle.wx_broker.specs.Carried.{is_event};
 ghost use Rattle.wx_broker.specs.Steps.{Appends, Stays};
+ghost use Rattle.wx_broker.specs.Tables.{is_channel, is_request, is_quiet};
 
-use crate::answers;
 use crate::carried::{entered, port_name, posted, replied, sent};
+use crate::{answers, tables};
 use std::alloc::Global;
 use std::marker::Model;
-use wx_id::{ChannelNo, ContextNo, NoMemory, RequestNo, Utf8Text};
-use wx_journal::Journal;
 use wx_context::{Context, Listens, Target};
 use wx_external::World;
+use wx_id::{ChannelNo, ContextNo, NoMemory, RequestNo, Utf8Text};
+use wx_journal::Journal;
 use wx_machine::{Answer, Call, Entry, JsonText, Who};
+use wx_one_shot::Requests;
+use wx_port::Ports;
 use wx_walks::contexts;
 
-/// The broker. It keeps the journal and no other state. Contracts see the world that it was made with, the
-/// journal's entries, and how many more have room; the journal is always legal.
+/// The broker. It keeps the journal, and tables of its channels and requests. Contracts see the world that it was made
+/// with, the journal's entries, and how many more have room; the journal is always legal, and the tables tell it.
 #[derive(Drop)]
 pub struct Broker {
     world: World,
     journal: Journal,
+    ports: Ports,
+    requests: Requests,
+    alloc: Global,
 }
 
 impl Model for Broker {
     ghost use Rattle.wx_broker.specs.State.{BrokerState};
-    ghost use Rattle.wx_machine.specs.Answers.{IsLegal};
+    ghost use Rattle.wx_broker.specs.Tables.{IsKept};
 
     ghost Value = { BrokerState };
 
     ghost view = { λ broker. record { world = broker.world; entries = broker.journal.entries; spare = broker.journal.spare } };
 
-    ghost invariant = { λ broker. IsLegal broker.world broker.journal.entries };
+    ghost invariant = { λ broker. IsKept broker.world broker.journal.entries broker.ports broker.requests };
 }
 
 impl Broker {
@@ -44,7 +50,24 @@ impl Broker {
         Broker {
             world,
             journal: Journal::new(alloc),
+            ports: Ports::new(alloc),
+            requests: Requests::new(alloc),
+            alloc,
         }
+    }
+
+    /// Appends an entry that changes no table. It comes back where memory was refused.
+    fn append(&mut self, e: Entry) -> Result<(), Entry>
+        requires follows { FollowsMachine self.old.world (reverse self.old.entries) e }
+        requires quiet { IsTrue (is_quiet e.call e.answer) }
+        ensures ok { OnOk result (self.new.entries ≡ self.old.entries ++ e ∷ []) }
+        ensures err { OnErr result (self.new.entries ≡ self.old.entries) }
+        ensures world { self.new.world ≡ self.old.world }
+        ensures returned { IfErr result (λ back. back ≡ e) }
+        ensures room { 0 < self.old.spare → IsOk result }
+        ensures spare { self.old.spare ≤ self.new.spare + 1 }
+    {
+        self.journal.push(e)
     }
 
     /// A context enters, and is given the next number. It comes back where memory was refused.
@@ -61,7 +84,7 @@ impl Broker {
             call: Call::Enter(x),
             answer: Answer::Entered(c),
         };
-        match self.journal.push(e) {
+        match self.append(e) {
             Ok(()) => Ok(c),
             Err(e) => Err(entered(e)),
         }
@@ -81,7 +104,7 @@ impl Broker {
             call: Call::Listen(l),
             answer,
         };
-        match self.journal.push(e) {
+        match self.append(e) {
             Ok(()) => Ok(answer),
             Err(_) => Err(NoMemory),
         }
@@ -102,7 +125,12 @@ impl Broker {
             answer,
         };
         match self.journal.push(e) {
-            Ok(()) => Ok(answer),
+            Ok(()) => {
+                // To one who left before this does nothing.
+                self.ports.leave(c);
+                self.requests.leave(c);
+                Ok(answer)
+            }
             Err(_) => Err(NoMemory),
         }
     }
@@ -119,19 +147,60 @@ impl Broker {
         ensures ok { IfOk result (λ a. Appends self.old self.new (Who.Context c) (Call.Connect target name) a) }
         ensures err { OnErr result (Stays self.old self.new) }
         ensures returned { IfErr result (λ back. back ≡ name) }
-        ensures room { 0 < self.old.spare → IsOk result }
+        ensures room { 0 < self.old.spare → OnErr result (IsTrue (is_channel (answer_of self.old.world self.old.entries (Who.Context c) (Call.Connect target name)))) }
         ensures spare { self.old.spare ≤ self.new.spare + 1 }
     {
-        let answer = answers::connect(&self.world, self.journal.entries(), c, &target);
+        let answer = answers::connect(&self.world, self.journal.entries(), &self.ports, c, &target);
+        if answers::is_channel(answer) {
+            return self.open(c, target, name, answer);
+        }
         let e = Entry {
             who: Who::Context(c),
             call: Call::Connect(target, name),
             answer,
         };
-        match self.journal.push(e) {
+        match self.append(e) {
             Ok(()) => Ok(answer),
             Err(e) => Err(port_name(e)),
         }
+    }
+
+    /// Context c opens a channel, with that answer. Nothing is changed before there is room for all.
+    fn open(
+        &mut self,
+        c: ContextNo,
+        target: Target,
+        name: Utf8Text,
+        answer: Answer,
+    ) -> Result<Answer, Utf8Text>
+        requires follows { FollowsMachine self.old.world (reverse self.old.entries) (record { who = Who.Context c; call = Call.Connect target name; answer = answer }) }
+        requires opens { IsTrue (is_channel answer) }
+        ensures ok { IfOk result (λ a. Appends self.old self.new (Who.Context c) (Call.Connect target name) a) }
+        ensures err { OnErr result (Stays self.old self.new) }
+        ensures returned { IfErr result (λ back. back ≡ name) }
+        ensures spare { self.old.spare ≤ self.new.spare + 1 }
+    {
+        if self.journal.reserve(1).is_err() {
+            return Err(name);
+        }
+        if tables::open(
+            &mut self.ports,
+            self.alloc,
+            self.journal.entries(),
+            c,
+            &target,
+        )
+        .is_err()
+        {
+            return Err(name);
+        }
+        let e = Entry {
+            who: Who::Context(c),
+            call: Call::Connect(target, name),
+            answer,
+        };
+        tables::push(&mut self.journal, e);
+        Ok(answer)
     }
 
     /// Context c posts a message on channel k (`Port.postMessage`). The message comes back where memory was
@@ -144,13 +213,13 @@ impl Broker {
         ensures room { 0 < self.old.spare → IsOk result }
         ensures spare { self.old.spare ≤ self.new.spare + 1 }
     {
-        let answer = answers::post(self.journal.entries(), c, k, &text);
+        let answer = answers::post(self.journal.entries(), &self.ports, c, k, &text);
         let e = Entry {
             who: Who::Context(c),
             call: Call::Post(k, text),
             answer,
         };
-        match self.journal.push(e) {
+        match self.append(e) {
             Ok(()) => Ok(answer),
             Err(e) => Err(posted(e)),
         }
@@ -164,14 +233,17 @@ impl Broker {
         ensures room { 0 < self.old.spare → IsOk result }
         ensures spare { self.old.spare ≤ self.new.spare + 1 }
     {
-        let answer = answers::disconnect(self.journal.entries(), c, k);
+        let answer = answers::disconnect(self.journal.entries(), &self.ports, c, k);
         let e = Entry {
             who: Who::Context(c),
             call: Call::Disconnect(k),
             answer,
         };
         match self.journal.push(e) {
-            Ok(()) => Ok(answer),
+            Ok(()) => {
+                tables::close_if_done(&mut self.ports, k, answer);
+                Ok(answer)
+            }
             Err(_) => Err(NoMemory),
         }
     }
@@ -183,19 +255,67 @@ impl Broker {
         ensures ok { IfOk result (λ a. Appends self.old self.new (Who.Context c) (Call.Send target text) a) }
         ensures err { OnErr result (Stays self.old self.new) }
         ensures returned { IfErr result (λ back. back ≡ text) }
-        ensures room { 0 < self.old.spare → IsOk result }
+        ensures room { 0 < self.old.spare → OnErr result (IsTrue (is_request (answer_of self.old.world self.old.entries (Who.Context c) (Call.Send target text)))) }
         ensures spare { self.old.spare ≤ self.new.spare + 1 }
     {
-        let answer = answers::send(&self.world, self.journal.entries(), c, &target, &text);
+        let answer = answers::send(
+            &self.world,
+            self.journal.entries(),
+            &self.requests,
+            c,
+            &target,
+            &text,
+        );
+        if answers::is_request(answer) {
+            return self.ask(c, target, text, answer);
+        }
         let e = Entry {
             who: Who::Context(c),
             call: Call::Send(target, text),
             answer,
         };
-        match self.journal.push(e) {
+        match self.append(e) {
             Ok(()) => Ok(answer),
             Err(e) => Err(sent(e)),
         }
+    }
+
+    /// Context c makes a request, with that answer. Nothing is changed before there is room for all.
+    fn ask(
+        &mut self,
+        c: ContextNo,
+        target: Target,
+        text: JsonText,
+        answer: Answer,
+    ) -> Result<Answer, JsonText>
+        requires follows { FollowsMachine self.old.world (reverse self.old.entries) (record { who = Who.Context c; call = Call.Send target text; answer = answer }) }
+        requires asks { IsTrue (is_request answer) }
+        ensures ok { IfOk result (λ a. Appends self.old self.new (Who.Context c) (Call.Send target text) a) }
+        ensures err { OnErr result (Stays self.old self.new) }
+        ensures returned { IfErr result (λ back. back ≡ text) }
+        ensures spare { self.old.spare ≤ self.new.spare + 1 }
+    {
+        if self.journal.reserve(1).is_err() {
+            return Err(text);
+        }
+        if tables::ask(
+            &mut self.requests,
+            self.alloc,
+            self.journal.entries(),
+            c,
+            &target,
+        )
+        .is_err()
+        {
+            return Err(text);
+        }
+        let e = Entry {
+            who: Who::Context(c),
+            call: Call::Send(target, text),
+            answer,
+        };
+        tables::push(&mut self.journal, e);
+        Ok(answer)
     }
 
     /// Context c replies to request r. The message comes back where memory was refused.
@@ -207,14 +327,17 @@ impl Broker {
         ensures room { 0 < self.old.spare → IsOk result }
         ensures spare { self.old.spare ≤ self.new.spare + 1 }
     {
-        let answer = answers::reply(self.journal.entries(), c, r, &text);
+        let answer = answers::reply(self.journal.entries(), &self.requests, c, r, &text);
         let e = Entry {
             who: Who::Context(c),
             call: Call::Reply(r, text),
             answer,
         };
         match self.journal.push(e) {
-            Ok(()) => Ok(answer),
+            Ok(()) => {
+                tables::settle_if_first(&mut self.requests, r, answer);
+                Ok(answer)
+            }
             Err(e) => Err(replied(e)),
         }
     }
@@ -227,14 +350,17 @@ impl Broker {
         ensures room { 0 < self.old.spare → IsOk result }
         ensures spare { self.old.spare ≤ self.new.spare + 1 }
     {
-        let answer = answers::decline(self.journal.entries(), c, r);
+        let answer = answers::decline(self.journal.entries(), &self.requests, c, r);
         let e = Entry {
             who: Who::Context(c),
             call: Call::Decline(r),
             answer,
         };
         match self.journal.push(e) {
-            Ok(()) => Ok(answer),
+            Ok(()) => {
+                tables::decline_if_done(&mut self.requests, r, c, answer);
+                Ok(answer)
+            }
             Err(_) => Err(NoMemory),
         }
     }
@@ -253,7 +379,7 @@ impl Broker {
             call: Call::Take,
             answer,
         };
-        match self.journal.push(e) {
+        match self.append(e) {
             Ok(()) => Ok(answer),
             Err(_) => Err(NoMemory),
         }
@@ -288,7 +414,7 @@ impl Broker {
         ensures entries { result.entries ≡ self.entries }
         ensures legal { IsLegal self.world self.entries }
     {
-        let Broker { world: _, journal } = self;
+        let Broker { journal, .. } = self;
         journal
     }
 

@@ -3,8 +3,8 @@ ghost use Rattle.std.specs.Prelude.{◌≡◌, IsTrue};
 ghost use Rattle.wx_machine.specs.Contexts.{is_enter};
 ghost use Rattle.wx_broker.specs.Carried.{is_connect, is_post, is_send, is_reply, IfConnect, IfPost, IfSend, IfReply};
 
-use wx_id::Utf8Text;
 use wx_context::Context;
+use wx_id::Utf8Text;
 use wx_machine::{Call, Entry, JsonText};
 
 /// The context of an entry that brings one in.

@@ -1,9 +1,11 @@
-//! The messaging broker: it keeps the journal, and finds every answer by walking it.
+//! The messaging broker: it keeps the journal, and tables of its channels and requests; the rest it finds by walking
+//! the journal.
 #![tactic(auto)]
 
 mod answers;
 mod broker;
 mod carried;
+mod tables;
 #[cfg(test)]
 mod tests;
 

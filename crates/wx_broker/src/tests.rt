@@ -2,9 +2,9 @@ use crate::Broker;
 use std::alloc::Global;
 use std::process::Abort;
 use std::test::Fail;
-use wx_id::{ChannelNo, ContextNo, EntryNo, Event, EventKind, ExtensionId, RequestNo, Utf8Text};
 use wx_context::{Context, Listens, PagePath, Target};
 use wx_external::World;
+use wx_id::{ChannelNo, ContextNo, EntryNo, Event, EventKind, ExtensionId, RequestNo, Utf8Text};
 use wx_machine::{Answer, JsonText};
 
 /// A call of a worked example.
@@ -155,7 +155,7 @@ fn one_connection_one_post(rt: HostRuntime) -> Result<(), Fail> {
             (1, Step::Leave, Answer::Done),
         ],
     );
-    assert_eq!(rt; broker.world(), World::new(rt.alloc()));
+    assert!(rt; broker.world().extensions().is_empty() && broker.world().hosts().is_empty());
     assert_eq!(rt; broker.journal().len(), 11);
     assert_eq!(rt; broker.into_journal().len(), 11);
     Ok(())

@@ -1,8 +1,8 @@
 -- What another context does at a broker, for the desk over it.
-use Rattle.std.proofs.Common.{◌≡◌, ◌≢◌, ◌<◌, [], ◌∷◌, Bool, true, false, arith, IsTrue, Some, None, Ok, Err, IfOk, OnErr, refl, ap, ◌∙◌}
+use Rattle.std.proofs.Common.{◌≡◌, ◌≢◌, ◌<◌, [], ◌∷◌, false, arith, IsTrue, Some, None, Ok, Err, IfOk, OnErr, refl, ap, ◌∙◌}
 use Rattle.std.specs.Prelude.{Result, Option, MatchOption, reverse}
 use Rattle.std.proofs.lemmas.List.{reverse-append}
-use Rattle.std.proofs.lemmas.Bool.{eq-eqb, eqb-true}
+use Rattle.std.proofs.lemmas.Bool.{eq-eqb}
 use Rattle.wx_id.specs.declared.numbers.ContextNo.{ContextNo}
 use Rattle.wx_context.specs.declared.contexts.Context.{Context}
 use Rattle.wx_machine.specs.declared.entries.Who.TheVariants.{Context as ByContext}
@@ -15,18 +15,12 @@ use Rattle.wx_machine.specs.Answers.{may_make}
 use Rattle.wx_machine.specs.Contexts.{contexts, same_context, is_enter}
 use Rattle.wx_broker.specs.State.{BrokerState}
 use Rattle.wx_broker.specs.Steps.{Appends, Stays}
+use Rattle.wx_script.proofs.ByLemmas.{is_by-other}
 use Rattle.wx_endpoint.specs.History.{seen_by}
 use Rattle.wx_endpoint.specs.Steps.{DeskState, IsSound, MakesNone}
 use Rattle.wx_endpoint.specs.Turn.{CursorState, StandsBehind}
 use Rattle.wx_endpoint.specs.BrokerDesks.{desk_over, shared}
 use Rattle.wx_endpoint.proofs.BrokerLemmas.{given_over, made_none, may_call, sound_grown, sound_same}
-
-other_context : (d c : ContextNo) → d.0 ≢ c.0 → same_context d c ≡ false
-other_context d c apart = by_test (same_context d c) refl
-  where
-    by_test : (same : Bool) → same_context d c ≡ same → same ≡ false
-    by_test true same = absurd (apart (eqb-true d.0 c.0 same))
-    by_test false same = refl
 
 -- what is known of a desk behind another context's step
 pub record Meanwhile (c : ContextNo) (old new : BrokerState) : Type 0 where
@@ -40,7 +34,7 @@ one_other c d old new call answer apart sound may appends =
     record {
       others = record {
         others = record { own = same_context d c; entry = e } ∷ [];
-        none_own = (tt, other_context d c apart);
+        none_own = (tt, is_by-other (ByContext d) d c refl apart);
         seen = ap (λ es. seen_by c (reverse es)) appends.grown ∙ ap (seen_by c) (reverse-append old.entries (e ∷ []));
         same_context = refl;
         same_world = appends.same_world;

@@ -1,7 +1,7 @@
 use crate::desk::Desk;
 use wx_broker::Broker;
-use wx_id::{ChannelNo, ContextNo, EntryNo, NoMemory, Utf8Text};
 use wx_context::{Listens, Target};
+use wx_id::{ChannelNo, ContextNo, EntryNo, NoMemory, RequestNo, Utf8Text};
 use wx_machine::{Answer, JsonText};
 
 /// The desk of the endpoint that is context `context`, over a broker that nobody else has: its own entries are those
@@ -35,6 +35,18 @@ impl Desk for BrokerDesk {
 
     fn disconnect(&mut self, k: ChannelNo) -> Result<Answer, NoMemory> {
         self.broker.disconnect(self.context, k)
+    }
+
+    fn send(&mut self, target: Target, text: JsonText) -> Result<Answer, JsonText> {
+        self.broker.send(self.context, target, text)
+    }
+
+    fn reply(&mut self, r: RequestNo, text: JsonText) -> Result<Answer, JsonText> {
+        self.broker.reply(self.context, r, text)
+    }
+
+    fn decline(&mut self, r: RequestNo) -> Result<Answer, NoMemory> {
+        self.broker.decline(self.context, r)
     }
 
     fn take(&mut self) -> Result<Answer, NoMemory> {

@@ -1,5 +1,5 @@
-use wx_id::{ChannelNo, EntryNo, NoMemory, Utf8Text};
 use wx_context::{Listens, Target};
+use wx_id::{ChannelNo, EntryNo, NoMemory, RequestNo, Utf8Text};
 use wx_machine::{Answer, JsonText};
 
 /// Where an endpoint makes its own calls. A desk tells its endpoint's context, a legal journal, and which of the
@@ -47,6 +47,29 @@ pub trait Desk {
     fn disconnect(&mut self, k: ChannelNo) -> Result<Answer, NoMemory>
         requires { IsSound (state self.old) }
         ensures made { IfOk result (λ answer. MakesOne (state self.old) (state self.new) (Call.Disconnect k) answer) }
+        ensures refused { OnErr result (MakesNone (state self.old) (state self.new)) }
+        ensures sound { IsSound (state self.new) };
+
+    /// The endpoint asks for a reply. The text comes back where memory was refused.
+    fn send(&mut self, target: Target, text: JsonText) -> Result<Answer, JsonText>
+        requires { IsSound (state self.old) }
+        ensures made { IfOk result (λ answer. MakesOne (state self.old) (state self.new) (Call.Send target text) answer) }
+        ensures refused { OnErr result (MakesNone (state self.old) (state self.new)) }
+        ensures returned { IfErr result (λ back. back ≡ text) }
+        ensures sound { IsSound (state self.new) };
+
+    /// The endpoint replies to a request. The text comes back where memory was refused.
+    fn reply(&mut self, r: RequestNo, text: JsonText) -> Result<Answer, JsonText>
+        requires { IsSound (state self.old) }
+        ensures made { IfOk result (λ answer. MakesOne (state self.old) (state self.new) (Call.Reply r text) answer) }
+        ensures refused { OnErr result (MakesNone (state self.old) (state self.new)) }
+        ensures returned { IfErr result (λ back. back ≡ text) }
+        ensures sound { IsSound (state self.new) };
+
+    /// The endpoint says that it will not reply to a request.
+    fn decline(&mut self, r: RequestNo) -> Result<Answer, NoMemory>
+        requires { IsSound (state self.old) }
+        ensures made { IfOk result (λ answer. MakesOne (state self.old) (state self.new) (Call.Decline r) answer) }
         ensures refused { OnErr result (MakesNone (state self.old) (state self.new)) }
         ensures sound { IsSound (state self.new) };
 

@@ -1,14 +1,15 @@
-ghost use Rattle.std.specs.Prelude.{◌≡◌, ◌∷◌, List, Option};
+ghost use Rattle.std.specs.Prelude.{◌≡◌, ◌∷◌};
 ghost use Rattle.wx_script.specs.declared.script.Act.TheVariants as Act;
 ghost use Rattle.wx_script.specs.Places as places;
 ghost use Rattle.wx_script.specs.Places.{within, behind_await, behind_act, behind_event, behind_answer};
-ghost use Rattle.wx_endpoint.specs.Cursors.{set_to, acts_in, place_at};
+ghost use Rattle.wx_endpoint.specs.Cursors.{acts_in, place_at};
 
-use crate::asked::{First, channel};
+use crate::asked::First;
 use crate::position::{Echo, Position, Rest};
-use wx_id::{ChannelNo, Event, EventKind};
+use crate::variables::Variables;
+use wx_id::{ChannelNo, EntryNo, Event, EventKind, RequestNo};
 use wx_machine::Answer;
-use wx_script::{Act, Var};
+use wx_script::{Act, Heard, Received};
 
 /// The channel that an answer gives.
 fn channel_in(answer: Answer) -> Option<ChannelNo>
@@ -16,6 +17,16 @@ fn channel_in(answer: Answer) -> Option<ChannelNo>
 {
     match answer {
         Answer::Channel(k) => Some(k),
+        _ => None,
+    }
+}
+
+/// The request that an answer gives.
+fn request_in(answer: Answer) -> Option<RequestNo>
+    ensures { result ≡ places.request_in answer }
+{
+    match answer {
+        Answer::Request(r) => Some(r),
         _ => None,
     }
 }
@@ -30,16 +41,6 @@ fn event_in(answer: Answer) -> Option<Event>
     }
 }
 
-/// Sets a variable to a channel, or clears it.
-fn set_channel(channels: &mut Vec<Option<ChannelNo>>, v: Var, k: Option<ChannelNo>)
-    ensures { set_to channels.new.items ≡ places.set_channel (set_to channels.old.items) v k }
-{
-    let v = v.0 as usize;
-    if v < channels.len() {
-        channels[v] = k;
-    }
-}
-
 fn is_channel(set_to: Option<ChannelNo>, k: ChannelNo) -> bool
     ensures { result ≡ places.is_channel set_to k }
 {
@@ -49,41 +50,54 @@ fn is_channel(set_to: Option<ChannelNo>, k: ChannelNo) -> bool
     }
 }
 
+fn is_request(set_to: Option<RequestNo>, r: RequestNo) -> bool
+    ensures { result ≡ places.is_request set_to r }
+{
+    match set_to {
+        Some(s) => s.0 == r.0,
+        None => false,
+    }
+}
+
 /// Whether an await takes no further than this event.
-fn is_wanted(channels: &[Option<ChannelNo>], act: &Act, kind: EventKind) -> bool
-    ensures { result ≡ places.is_wanted (set_to channels.now) act.now kind }
+fn is_wanted(variables: &Variables, act: &Act, kind: EventKind) -> bool
+    ensures { result ≡ places.is_wanted variables.now act.now kind }
 {
     match (act, kind) {
         (Act::AwaitConnect(_), EventKind::Connected(_)) => true,
         (Act::AwaitMessage(v), EventKind::Message(k) | EventKind::Disconnected(k)) => {
-            is_channel(channel(channels, *v), k)
+            is_channel(variables.channel(*v), k)
         }
-        (Act::AwaitClose(v), EventKind::Disconnected(k)) => is_channel(channel(channels, *v), k),
+        (Act::AwaitRequest(_), EventKind::Asked(_)) => true,
+        (Act::AwaitReply(v), EventKind::Replied(r) | EventKind::Closed(r)) => {
+            is_request(variables.asked(*v), r)
+        }
+        (Act::AwaitClose(v), EventKind::Disconnected(k)) => is_channel(variables.channel(*v), k),
         _ => false,
     }
 }
 
-/// Sets the variable of an awaited connection.
-fn set_by(channels: &mut Vec<Option<ChannelNo>>, act: &Act, kind: EventKind)
-    ensures { set_to channels.new.items ≡ places.set_by (set_to channels.old.items) act.now kind }
+/// Sets the variable of an awaited connection, or of an awaited request, which this entry delivered.
+fn set_by(variables: &mut Variables, act: &Act, entry: EntryNo, kind: EventKind)
+    ensures { variables.new ≡ places.set_by variables.old act.now entry kind }
 {
-    if let (Act::AwaitConnect(v), EventKind::Connected(k)) = (act, kind) {
-        set_channel(channels, *v, Some(k));
+    match (act, kind) {
+        (Act::AwaitConnect(v), EventKind::Connected(k)) => variables.set_channel(*v, Some(k)),
+        (Act::AwaitRequest(v), EventKind::Asked(request)) => {
+            variables.set_received(*v, Some(Received { request, entry }));
+        }
+        _ => {}
     }
 }
 
 /// Behind what an await takes.
-fn awaited<'a>(
-    channels: &mut Vec<Option<ChannelNo>>,
-    first: First<'a>,
-    answer: Answer,
-) -> Position<'a>
+fn awaited<'a>(variables: &mut Variables, first: First<'a>, answer: Answer) -> Position<'a>
     requires { acts_in first.rest ≡ first.act.now ∷ acts_in first.behind }
-    ensures { place_at result channels.new.items ≡ behind_await (set_to channels.old.items) first.entry.act.now (acts_in first.entry.behind) (places.event_in answer) }
+    ensures { place_at result variables.new ≡ behind_await variables.old first.entry.act.now (acts_in first.entry.behind) (places.event_in answer) }
 {
     match event_in(answer) {
-        Some(event) if is_wanted(channels, first.act, event.kind) => {
-            set_by(channels, first.act, event.kind);
+        Some(event) if is_wanted(variables, first.act, event.kind) => {
+            set_by(variables, first.act, event.entry, event.kind);
             Position::Unbegun(first.behind)
         }
         _ => Position::Unbegun(first.rest),
@@ -92,20 +106,21 @@ fn awaited<'a>(
 
 /// Behind what an echo takes.
 pub(crate) fn heard(echo: Echo, behind: Rest<'_>, answer: Answer) -> Position<'_>
-    ensures { (channels : List (Option ChannelNo)) → place_at result channels ≡ within (behind_event echo.left (places.event_in answer)) (Act.Echo echo.of ∷ acts_in behind.entry) (set_to channels) }
+    ensures { (variables : places.Variables) → place_at result variables ≡ within (behind_event echo.left (places.event_in answer)) (Act.Echo echo.of ∷ acts_in behind.entry) variables }
 {
-    match event_in(answer) {
-        Some(event) => match event.kind {
-            EventKind::Message(k) => Position::Answering(echo, behind, k, event.entry),
-            _ => Position::Echoing(echo, behind),
-        },
-        None => Position::Echoing(echo, behind),
+    let Some(event) = event_in(answer) else {
+        return Position::Echoing(echo, behind);
+    };
+    match event.kind {
+        EventKind::Message(k) => Position::Answering(echo, behind, Heard::Message(k), event.entry),
+        EventKind::Asked(r) => Position::Answering(echo, behind, Heard::Request(r), event.entry),
+        _ => Position::Echoing(echo, behind),
     }
 }
 
 /// Behind an answer of an echo.
 pub(crate) fn answered(echo: Echo, behind: Rest<'_>) -> Position<'_>
-    ensures { (channels : List (Option ChannelNo)) → place_at result channels ≡ behind_answer echo.left (Act.Echo echo.of ∷ acts_in behind.entry) (set_to channels) }
+    ensures { (variables : places.Variables) → place_at result variables ≡ behind_answer echo.left (Act.Echo echo.of ∷ acts_in behind.entry) variables }
 {
     if echo.left <= 1 {
         return Position::Unbegun(behind);
@@ -115,22 +130,24 @@ pub(crate) fn answered(echo: Echo, behind: Rest<'_>) -> Position<'_>
 }
 
 /// Behind the first entry of an act.
-pub(crate) fn begun<'a>(
-    channels: &mut Vec<Option<ChannelNo>>,
-    first: First<'a>,
-    answer: Answer,
-) -> Position<'a>
+pub(crate) fn begun<'a>(variables: &mut Variables, first: First<'a>, answer: Answer) -> Position<'a>
     requires { acts_in first.rest ≡ first.act.now ∷ acts_in first.behind }
-    ensures { place_at result channels.new.items ≡ behind_act (set_to channels.old.items) answer first.entry.act.now (acts_in first.entry.behind) }
+    ensures { place_at result variables.new ≡ behind_act variables.old answer first.entry.act.now (acts_in first.entry.behind) }
 {
     match first.act {
         Act::Connect(v, _, _) => {
-            set_channel(channels, *v, channel_in(answer));
+            variables.set_channel(*v, channel_in(answer));
             Position::Unbegun(first.behind)
         }
-        Act::AwaitConnect(_) | Act::AwaitMessage(_) | Act::AwaitClose(_) => {
-            awaited(channels, first, answer)
+        Act::Send(v, _, _) => {
+            variables.set_asked(*v, request_in(answer));
+            Position::Unbegun(first.behind)
         }
+        Act::AwaitConnect(_)
+        | Act::AwaitMessage(_)
+        | Act::AwaitRequest(_)
+        | Act::AwaitReply(_)
+        | Act::AwaitClose(_) => awaited(variables, first, answer),
         Act::Echo(n) => heard(Echo { of: *n, left: *n }, first.behind, answer),
         _ => Position::Unbegun(first.behind),
     }

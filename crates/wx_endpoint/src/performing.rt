@@ -1,16 +1,16 @@
-ghost use Rattle.std.specs.Prelude.{◌≡◌, ℕ, List, Some, IfOk, OnErr, MatchOption};
-ghost use Rattle.wx_machine.specs.Carried.{text_of};
+ghost use Rattle.std.specs.Prelude.{◌≡◌, IfOk, OnErr, MatchOption};
 ghost use Rattle.wx_machine.specs.declared.entries.Call.TheVariants as Call;
-ghost use Rattle.wx_script.specs.Places.{asks, asks_answer};
-ghost use Rattle.wx_endpoint.specs.Asked.{whole_call, next_by};
+ghost use Rattle.wx_script.specs.Places as places;
+ghost use Rattle.wx_endpoint.specs.Asked.{whole_call, begun_by};
 ghost use Rattle.wx_endpoint.specs.Steps.{IsSound, MakesNone, MakesOne, past_of};
-ghost use Rattle.wx_endpoint.specs.Performed.{MakesNext, WaitsNext, HasText};
+ghost use Rattle.wx_endpoint.specs.Performed.{MakesNext, WaitsNext, CarriesText, HasText};
 
-use crate::asked::{AskedCall, Begins, Step};
+use crate::asked::{AskedCall, Begins};
 use crate::desk::Desk;
-use wx_id::{ChannelNo, EntryNo, NoMemory, Utf8Text};
 use wx_context::Target;
+use wx_id::{ChannelNo, EntryNo, NoMemory, RequestNo, Utf8Text};
 use wx_machine::{Answer, JsonText};
+use wx_script::Heard;
 
 /// One `connect` with a copy of the name.
 fn connect<D: Desk>(desk: &mut D, target: Target, name: &Utf8Text) -> Result<Answer, NoMemory>
@@ -38,6 +38,32 @@ fn post_text<D: Desk>(desk: &mut D, k: ChannelNo, text: JsonText) -> Result<Answ
     }
 }
 
+/// One `send` with a copy of the text.
+fn send<D: Desk>(desk: &mut D, target: Target, text: &JsonText) -> Result<Answer, NoMemory>
+    requires { IsSound (D.state desk.old) }
+    ensures made { IfOk result (λ answer. MakesOne (D.state desk.old) (D.state desk.new) (Call.Send target text.now) answer) }
+    ensures refused { OnErr result (MakesNone (D.state desk.old) (D.state desk.new)) }
+    ensures sound { IsSound (D.state desk.new) }
+{
+    match desk.send(target, text.try_clone()?) {
+        Ok(answer) => Ok(answer),
+        Err(_) => Err(NoMemory),
+    }
+}
+
+/// One `reply`. The text is let go where memory was refused.
+fn reply_text<D: Desk>(desk: &mut D, r: RequestNo, text: JsonText) -> Result<Answer, NoMemory>
+    requires { IsSound (D.state desk.old) }
+    ensures made { IfOk result (λ answer. MakesOne (D.state desk.old) (D.state desk.new) (Call.Reply r text) answer) }
+    ensures refused { OnErr result (MakesNone (D.state desk.old) (D.state desk.new)) }
+    ensures sound { IsSound (D.state desk.new) }
+{
+    match desk.reply(r, text) {
+        Ok(answer) => Ok(answer),
+        Err(_) => Err(NoMemory),
+    }
+}
+
 /// Makes the call.
 fn make<D: Desk>(desk: &mut D, call: AskedCall<'_>) -> Result<Answer, NoMemory>
     requires { IsSound (D.state desk.old) }
@@ -47,18 +73,35 @@ fn make<D: Desk>(desk: &mut D, call: AskedCall<'_>) -> Result<Answer, NoMemory>
 {
     match call {
         AskedCall::Listen(l) => desk.listen(l),
-        AskedCall::Connect(target, name) => connect(desk, target, name),
+        AskedCall::Leave => desk.leave(),
+        AskedCall::Connect(target, name) => connect(desk, *target, name),
         AskedCall::Post(k, text) => post_text(desk, k, text.try_clone()?),
         AskedCall::Disconnect(k) => desk.disconnect(k),
+        AskedCall::Send(target, text) => send(desk, *target, text),
+        AskedCall::Reply(r, text) => reply_text(desk, r, text.try_clone()?),
+        AskedCall::Decline(r) => desk.decline(r),
         AskedCall::Take => desk.take(),
     }
 }
 
-/// Posts the text that an entry carries.
-fn reply<D: Desk>(desk: &mut D, k: ChannelNo, e: EntryNo) -> Result<Answer, NoMemory>
+/// Answers what came by this text.
+fn answer_by_text<D: Desk>(desk: &mut D, came: Heard, text: JsonText) -> Result<Answer, NoMemory>
+    requires { IsSound (D.state desk.old) }
+    ensures made { IfOk result (λ answer. MakesOne (D.state desk.old) (D.state desk.new) (places.answer_by came text) answer) }
+    ensures refused { OnErr result (MakesNone (D.state desk.old) (D.state desk.new)) }
+    ensures sound { IsSound (D.state desk.new) }
+{
+    match came {
+        Heard::Message(k) => post_text(desk, k, text),
+        Heard::Request(r) => reply_text(desk, r, text),
+    }
+}
+
+/// Answers what came by the text that an entry carries.
+fn answer_by_entry<D: Desk>(desk: &mut D, came: Heard, e: EntryNo) -> Result<Answer, NoMemory>
     requires sound { IsSound (D.state desk.old) }
-    requires text { (text : List ℕ) × (text_of (past_of (D.state desk.old)) e ≡ Some text) }
-    ensures made { IfOk result (λ answer. MakesNext (D.state desk.old) (D.state desk.new) (λ past. asks_answer k (text_of past e)) answer) }
+    requires text { CarriesText (past_of (D.state desk.old)) e }
+    ensures made { IfOk result (λ answer. MakesNext (D.state desk.old) (D.state desk.new) (places.answers came e) answer) }
     ensures refused { OnErr result (MakesNone (D.state desk.old) (D.state desk.new)) }
     ensures sound { IsSound (D.state desk.new) }
 {
@@ -66,25 +109,21 @@ fn reply<D: Desk>(desk: &mut D, k: ChannelNo, e: EntryNo) -> Result<Answer, NoMe
     let Some(text) = copy else {
         unreachable!();
     };
-    post_text(desk, k, text)
+    answer_by_text(desk, came, text)
 }
 
-/// Makes the entry of a step, or none where the step waits and nothing is pending.
-pub(crate) fn perform<D: Desk>(desk: &mut D, step: Step<'_>) -> Result<Option<Answer>, NoMemory>
+/// Makes the entry that begins so, or none where it waits and nothing is pending.
+pub(crate) fn perform<D: Desk>(desk: &mut D, begins: Begins<'_>) -> Result<Option<Answer>, NoMemory>
     requires sound { IsSound (D.state desk.old) }
-    requires text { HasText (past_of (D.state desk.old)) step }
-    ensures made { IfOk result (λ found. MatchOption found (WaitsNext (D.state desk.old) (D.state desk.new) (λ past. next_by past step.entry))
-        (λ answer. MakesNext (D.state desk.old) (D.state desk.new) (λ past. next_by past step.entry) answer)) }
+    requires text { HasText (past_of (D.state desk.old)) (begun_by begins) }
+    ensures made { IfOk result (λ found. MatchOption found (WaitsNext (D.state desk.old) (D.state desk.new) (begun_by begins.entry))
+        (λ answer. MakesNext (D.state desk.old) (D.state desk.new) (begun_by begins.entry) answer)) }
     ensures refused { OnErr result (MakesNone (D.state desk.old) (D.state desk.new)) }
     ensures sound { IsSound (D.state desk.new) }
 {
-    match step {
-        Step::Begin(first) => match first.begins {
-            Begins::Call(call) => Ok(Some(make(desk, call)?)),
-            Begins::Wait => desk.take_ready(),
-        },
-        Step::Leave => Ok(Some(desk.leave()?)),
-        Step::Hear => desk.take_ready(),
-        Step::Reply(k, e) => Ok(Some(reply(desk, k, e)?)),
+    match begins {
+        Begins::Call(call) => Ok(Some(make(desk, call)?)),
+        Begins::Wait => desk.take_ready(),
+        Begins::Answer(came, e) => Ok(Some(answer_by_entry(desk, came, e)?)),
     }
 }

@@ -1,6 +1,6 @@
 use crate::desk::Desk;
-use wx_id::{ChannelNo, EntryNo, NoMemory, Utf8Text};
 use wx_context::{Listens, Target};
+use wx_id::{ChannelNo, EntryNo, NoMemory, RequestNo, Utf8Text};
 use wx_machine::{Answer, JsonText};
 
 /// A desk of tests, for one page that does nothing but take. Nothing is ever pending there; any other call is
@@ -32,6 +32,18 @@ impl Desk for QuietDesk {
     }
 
     fn disconnect(&mut self, _k: ChannelNo) -> Result<Answer, NoMemory> {
+        Err(NoMemory)
+    }
+
+    fn send(&mut self, _target: Target, text: JsonText) -> Result<Answer, JsonText> {
+        Err(text)
+    }
+
+    fn reply(&mut self, _r: RequestNo, text: JsonText) -> Result<Answer, JsonText> {
+        Err(text)
+    }
+
+    fn decline(&mut self, _r: RequestNo) -> Result<Answer, NoMemory> {
         Err(NoMemory)
     }
 

@@ -23,7 +23,7 @@ pub fn turn<D: Desk>(cursor: &mut Cursor<'_>, desk: &mut D) -> Turned
     if cursor.is_spent() {
         return Turned::Spent;
     }
-    match perform(desk, step) {
+    match perform(desk, step.begins()) {
         Ok(Some(answer)) => {
             cursor.pass(step, answer);
             Turned::Moved

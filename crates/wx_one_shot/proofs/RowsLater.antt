@@ -3,7 +3,7 @@ use Rattle.std.proofs.Common.{◌≡◌, ◌≤◌, ◌<◌, ℕ, suc, zero, Lis
 use Rattle.std.specs.Prelude.{Option, Some, None, slice_get, IfSome}
 use Rattle.std.specs.Option.{option_map}
 use Rattle.std.proofs.lemmas.Option.{none-some, slice_get-map, slice_get_read, slice_get_within, get_or_from_slice_get}
-use Rattle.std.proofs.lemmas.List.{map-set}
+use Rattle.std.proofs.lemmas.List.{length-map, map-set}
 use Rattle.wx_id.specs.declared.numbers.ContextNo.{ContextNo}
 use Rattle.wx_one_shot.specs.declared.requests.Row.{Row}
 use Rattle.wx_one_shot.specs.declared.requests.Standing.TheVariants.{Open, Stranger}
@@ -49,3 +49,12 @@ none_further requests c from k end before j behind = by (slice_get requests j) r
     by (Some request) e =
         let within : j < length requests = slice_get_within requests j request e in
         before j (omega (arith, within, end)) behind
+
+pub row_within : (rows : List Row) (k : ℕ) → k < length rows → k < length (requests_in rows)
+row_within rows k h = rw (length-map rows request_in) h
+
+-- a row that was read holds the request that is read
+pub row_read : (rows : List Row) (k : ℕ) (row : Row) → row ≡ get_or rows k row → request_in row ≡ get_or (requests_in rows) k (request_in row)
+row_read [] k row h = refl
+row_read (x ∷ rows) zero row h = ap request_in h
+row_read (x ∷ rows) (suc k) row h = row_read rows k row h

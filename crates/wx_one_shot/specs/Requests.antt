@@ -41,6 +41,11 @@ left_to contexts request = record { asker = request.asker; receivers = request.r
 abbrev pub without : ContextNo → Request → Request
 without c request = left_to (filter (is_other c) request.still_open) request
 
+-- the request once context c has left: an unsettled one that c asked is settled, and one that was sent to c is left to the others
+abbrev pub left_by : ContextNo → Request → Request
+left_by c request =
+    cond request.is_settled request (cond (request.asker.0 == c.0) (settled request) (cond (is_among request.receivers c) (without c request) request))
+
 -- the request with a number has been given out and is settled
 abbrev pub is_settled_at : Option Request → Bool
 is_settled_at None = false

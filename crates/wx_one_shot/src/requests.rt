@@ -1,8 +1,8 @@
 //! The requests, each at the place of its number.
-ghost use Rattle.std.specs.Prelude.{◌≡◌, ◌≤◌, ◌<◌, ℕ, [], ◌∷◌, ◌++◌, length, false, IsTrue, IfSome, IfOk, IfErr, OnOk, OnErr, Some, slice_get, slice_set, filter};
+ghost use Rattle.std.specs.Prelude.{◌≡◌, ◌≤◌, ◌<◌, ℕ, [], ◌∷◌, ◌++◌, length, map, false, IsTrue, IfSome, IfOk, IfErr, OnOk, OnErr, Some, slice_get, slice_set, filter};
 ghost use Rattle.std.specs.Option.{IfNone};
-ghost use Rattle.wx_one_shot.specs.Requests.{is_among, is_other, are_distinct, asked, settled, without, is_settled_at, is_unsettled_at, standing_at, concerns_at};
-ghost use Rattle.wx_one_shot.specs.Rows.{request_in};
+ghost use Rattle.wx_one_shot.specs.Requests.{is_among, is_other, are_distinct, asked, settled, without, left_by, is_settled_at, is_unsettled_at, standing_at, concerns_at};
+ghost use Rattle.wx_one_shot.specs.Rows.{request_in, requests_in};
 ghost use Rattle.wx_one_shot.specs.declared.requests.Standing.TheVariants.{Open};
 
 use std::alloc::Global;
@@ -79,6 +79,29 @@ fn close_to(row: &mut Row, c: ContextNo) -> bool
     take_out(&mut row.still_open, c);
     row.is_settled = row.still_open.is_empty();
     row.is_settled
+}
+
+// Context c leaves, and the request is settled or left to others where it concerns c.
+fn leave_row(row: &mut Row, c: ContextNo)
+    ensures { request_in row.new ≡ left_by c (request_in row.old) }
+{
+    if row.is_settled {
+        return;
+    }
+    if row.asker.0 == c.0 {
+        settle_row(row);
+    } else if is_among(&row.receivers, c) {
+        let _ = close_to(row, c);
+    }
+}
+
+// Context c leaves each of these requests.
+fn leave_each(rows: &mut Vec<Row>, c: ContextNo)
+    ensures { requests_in rows.new.items ≡ map (left_by c) (requests_in rows.old.items) }
+{
+    for row in rows.iter_mut() {
+        leave_row(row, c);
+    }
 }
 
 /// The one-shot requests, seen as a list by number: each with its asker, its receivers, those that may still reply, and
@@ -201,6 +224,21 @@ impl Requests {
         ensures settled { result ≡ is_settled_at (slice_get self.new r.0) }
     {
         self.close_at(r, c)
+    }
+
+    /// Context c leaves: each unsettled request that it asked is settled, and those that were sent to it are left to
+    /// their other receivers. Takes no memory.
+    pub fn leave(&mut self, c: ContextNo)
+        ensures { self.new ≡ map (left_by c) self.old }
+    {
+        leave_each(&mut self.rows, c);
+    }
+
+    /// How many requests were made.
+    pub fn count(&self) -> u64
+        ensures { result ≡ length self.now }
+    {
+        self.rows.len() as u64
     }
 
     /// The least request from `from` on that is not settled and that context c asked or may still reply to; none where

@@ -13,6 +13,10 @@ enum Step {
     Drop(u64, u64, bool),
     // The request, and who asked it.
     Settle(u64, u64),
+    // The context.
+    Leave(u64),
+    // How many there are.
+    Count(u64),
     // The context, the number from which on, and the number found.
     Next(u64, u64, Option<u64>),
 }
@@ -92,6 +96,11 @@ fn goes(requests: &mut Requests, alloc: Global, step: Step) -> bool {
         Step::Decline(r, c, settled) => declines(requests, r, c, settled),
         Step::Drop(r, c, settled) => drops(requests, r, c, settled),
         Step::Settle(r, c) => settles(requests, r, c),
+        Step::Leave(c) => {
+            requests.leave(ContextNo(c));
+            requests.next_of(ContextNo(c), RequestNo(0)).is_none()
+        }
+        Step::Count(count) => requests.count() == count,
         Step::Next(c, from, number) => {
             requests.next_of(ContextNo(c), RequestNo(from)) == number.map(|n| RequestNo(n))
         }
@@ -161,6 +170,34 @@ fn calls_in_order(rt: HostRuntime) -> Result<(), Fail> {
         Step::Ask(2, Some(3), None, 4),
         Step::Decline(4, 3, true),
         Step::Next(2, 0, None),
+    ] {
+        assert!(rt; goes(&mut requests, rt.alloc(), step));
+    }
+    Ok(())
+}
+
+#[test]
+fn leaves(rt: HostRuntime) -> Result<(), Fail> {
+    let mut requests = Requests::new(rt.alloc());
+    for step in [
+        Step::Ask(0, Some(1), Some(2), 0),
+        Step::Ask(1, Some(0), Some(2), 1),
+        Step::Ask(2, Some(1), None, 2),
+        Step::Ask(2, Some(3), None, 3),
+        Step::Count(4),
+        // It asked the one, was sent another with one more, and a third alone.
+        Step::Leave(1),
+        Step::Is(1, 0, Standing::Late),
+        Step::Is(0, 1, Standing::Late),
+        Step::Is(0, 2, Standing::Open),
+        Step::Next(0, 0, Some(0)),
+        Step::Next(2, 1, Some(3)),
+        Step::Is(3, 3, Standing::Open),
+        // The last receiver of one leaves, who asked the last.
+        Step::Leave(2),
+        Step::Next(0, 0, None),
+        Step::Is(3, 3, Standing::Late),
+        Step::Count(4),
     ] {
         assert!(rt; goes(&mut requests, rt.alloc(), step));
     }

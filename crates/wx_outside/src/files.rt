@@ -3,7 +3,7 @@ ghost use Rattle.wx_outside.specs.Shelf.{content, IsWithinLimit};
 
 use crate::shelf::{Found, LIMIT, Shelf, ShelfFault};
 use std::alloc::Global;
-use std::fs;
+use std::fs::{self, OpenFile};
 use std::io::{ErrorKind, Read};
 use std::rt::Files;
 
@@ -24,13 +24,19 @@ impl<'a, R: Files + Input> FileShelf<'a, R> {
 }
 
 /// How many bytes are read at once.
-const PIECE: usize = 4096;
+const PIECE: usize = 65_536;
 
-/// All that the source gives, unless it gives more than the limit. A read that a signal interrupted is tried again.
-fn read_whole<S: Read>(alloc: Global, source: &mut S) -> Result<Found, ShelfFault>
+/// All that the source gives, unless it gives more than the limit. A read that a signal interrupted is tried again. Room
+/// for the bytes that are expected is taken at once; where it is refused, it is taken as they come.
+fn read_whole<S: Read>(
+    alloc: Global,
+    source: &mut S,
+    expected: usize,
+) -> Result<Found, ShelfFault>
     ensures { IfOk result (λ found. IsWithinLimit (content found)) }
 {
     let mut bytes: Vec<u8> = Vec::new(alloc);
+    let _ = bytes.reserve(expected.min(LIMIT));
     let mut piece = [0u8; PIECE];
     for _ in 0..u64::MAX {
         let room = (LIMIT + 1).saturating_sub(bytes.len()).min(PIECE);
@@ -60,10 +66,16 @@ fn open_and_read<R: Files + Input>(
     ensures { IfOk result (λ found. IsWithinLimit (content found)) }
 {
     if name == "-" {
-        return read_whole(alloc, &mut runtime.reader());
+        return read_whole(alloc, &mut runtime.reader(), 0);
     }
     match fs::open(runtime, name) {
-        Ok(mut file) => read_whole(alloc, &mut file),
+        Ok(mut file) => {
+            let expected = match file.metadata() {
+                Ok(metadata) => metadata.len() as usize,
+                Err(_) => 0,
+            };
+            read_whole(alloc, &mut file, expected)
+        }
         Err(e) if e.kind() == ErrorKind::NotFound => Ok(Found::Missing),
         Err(_) => Err(ShelfFault::Failed),
     }

@@ -54,6 +54,14 @@ with_live port (c ∷ cs) = record port { live = c ∷ cs }
 abbrev pub without : ContextNo → Port → Port
 without c port = if same_context port.opener c then closed port else with_live port (filter (is_other c) port.live)
 
+-- c is an end of the channel, live or not
+abbrev pub is_end : Port → ContextNo → Bool
+is_end port c = same_context port.opener c || is_among port.receivers c
+
+-- the channel once context c has left: an open one of which c is an end is dropped by it
+abbrev pub left_by : ContextNo → Port → Port
+left_by c port = if port.is_open && is_end port c then without c port else port
+
 -- what c is to a channel, open or closed; nothing to one that was not opened yet
 abbrev pub end_of : Option Port → ContextNo → End
 end_of None c = Neither

@@ -113,9 +113,8 @@ impl Channel {
         self.is_open = false;
     }
 
-    /// Its live end c drops it.
+    /// Its end c drops it.
     pub fn drop_end(&mut self, c: ContextNo)
-        requires { IsTrue (spec.is_live_end (Some self.old) c) }
         ensures { self.new ≡ spec.without c self.old }
     {
         if self.opener.0 == c.0 {
@@ -124,5 +123,21 @@ impl Channel {
         }
         drop_context(&mut self.live, c);
         self.is_open = !self.live.is_empty();
+    }
+
+    /// Whether c is an end of it, live or not.
+    fn has_end(&self, c: ContextNo) -> bool
+        ensures { result ≡ spec.is_end self.now c }
+    {
+        self.opener.0 == c.0 || is_among(&self.receivers, c)
+    }
+
+    /// Context c leaves, and drops it where it is open and c an end.
+    pub fn leave(&mut self, c: ContextNo)
+        ensures { self.new ≡ spec.left_by c self.old }
+    {
+        if self.is_open && self.has_end(c) {
+            self.drop_end(c);
+        }
     }
 }

@@ -1,4 +1,4 @@
-ghost use Rattle.std.specs.Prelude.{◌≡◌, ℕ, ◌<◌, ◌≤◌, [], ◌∷◌, ◌++◌, IsTrue, false, IsNone, IfOk, IfErr, IfSome, OnOk, OnErr, length, not, slice_get, slice_set};
+ghost use Rattle.std.specs.Prelude.{◌≡◌, ℕ, ◌<◌, ◌≤◌, [], ◌∷◌, ◌++◌, IsTrue, false, IsNone, IfOk, IfErr, IfSome, OnOk, OnErr, length, map, not, slice_get, slice_set};
 ghost use Rattle.wx_port.specs.Port as spec;
 
 use crate::channel::Channel;
@@ -20,6 +20,15 @@ impl Model for Ports {
     ghost Value = { List Port };
 
     ghost view = { λ a. a.channels.items };
+}
+
+/// Context c leaves each of these channels.
+fn leave_each(channels: &mut Vec<Channel>, c: ContextNo)
+    ensures { channels.new.items ≡ map (spec.left_by c) channels.old.items }
+{
+    for channel in channels.iter_mut() {
+        channel.leave(c);
+    }
 }
 
 impl Ports {
@@ -117,6 +126,20 @@ impl Ports {
         let channel = &mut self.channels[k.0 as usize];
         channel.drop_end(c);
         !channel.is_open()
+    }
+
+    /// Context c leaves: it drops each open channel of which it is an end. Takes no memory.
+    pub fn leave(&mut self, c: ContextNo)
+        ensures { self.new ≡ map (spec.left_by c) self.old }
+    {
+        leave_each(&mut self.channels, c);
+    }
+
+    /// How many channels were opened.
+    pub fn count(&self) -> u64
+        ensures { result ≡ length self.now }
+    {
+        self.channels.len() as u64
     }
 
     /// Whether channel k is open and c a live end of it.

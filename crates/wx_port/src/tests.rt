@@ -16,6 +16,8 @@ enum Row<'a> {
     Live(u64, &'a [u64]),
     Close(u64),
     DropEnd(u64, u64, bool),
+    Leave(u64),
+    Count(u64),
     NextOf(u64, u64, Option<u64>),
 }
 
@@ -51,6 +53,11 @@ fn holds(ports: &mut Ports, row: Row) -> bool {
             is_live_end(ports, ChannelNo(k), ContextNo(c))
                 && ports.drop_end(ChannelNo(k), ContextNo(c)) == closes
         }
+        Row::Leave(c) => {
+            ports.leave(ContextNo(c));
+            ports.next_of(ContextNo(c), ChannelNo(0)).is_none()
+        }
+        Row::Count(count) => ports.count() == count,
         Row::NextOf(c, from, next) => {
             ports.next_of(ContextNo(c), ChannelNo(from)) == next.map(|k| ChannelNo(k))
         }
@@ -58,6 +65,45 @@ fn holds(ports: &mut Ports, row: Row) -> bool {
 }
 
 fn crosses_threads<T: Send + Sync>(_value: &T) {}
+
+#[test]
+fn leaves(rt: HostRuntime) -> Result<(), Fail> {
+    let alloc = rt.alloc();
+    let mut ports = Ports::new(alloc);
+    for (opener, one, other) in [(7, 1, 2), (1, 2, 7), (2, 1, 7), (7, 2, 3)] {
+        let receivers = vec![in alloc; ContextNo(one), ContextNo(other)]?;
+        if opener == one || opener == other || one == other {
+            return Err("ends that are no channel's".into());
+        }
+        assert!(rt; ports.open(ContextNo(opener), receivers).is_ok());
+    }
+    let table = [
+        Row::Count(4),
+        // It opened the one, and is a receiver of two others that have another live one.
+        Row::Leave(1),
+        Row::IsOpen(1, false),
+        Row::End(1, 1, End::Opener),
+        Row::Live(0, &[2]),
+        Row::Live(2, &[7]),
+        Row::Live(3, &[2, 3]),
+        // The last live receiver of one, and the opener of another.
+        Row::Leave(2),
+        Row::IsOpen(0, false),
+        Row::IsOpen(2, false),
+        Row::Live(3, &[3]),
+        // One who left, and one who never came.
+        Row::Leave(2),
+        Row::Leave(9),
+        Row::Live(3, &[3]),
+        Row::Leave(7),
+        Row::IsOpen(3, false),
+        Row::Count(4),
+    ];
+    for (i, row) in table.iter().enumerate() {
+        assert!(rt; holds(&mut ports, *row), "row {i}");
+    }
+    Ok(())
+}
 
 #[test]
 fn calls_and_their_answers(rt: HostRuntime) -> Result<(), Fail> {

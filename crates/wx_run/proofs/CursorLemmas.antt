@@ -1,28 +1,15 @@
 -- Cursors behind one more entry.
-use Rattle.std.proofs.Common.{◌≡◌, ◌≢◌, ℕ, zero, suc, ◌+◌, ◌<◌, ◌≤◌, length, set, cond, arith, true, false, List, [], ◌∷◌, ◌++◌, Some, refl, sym, ap, ◌∙◌, subst, eqb}
+use Rattle.std.proofs.Common.{◌≡◌, ◌≢◌, ℕ, zero, suc, ◌+◌, ◌<◌, ◌≤◌, length, set, cond, arith, List, [], ◌∷◌, ◌++◌, Some, refl, sym, ap, ◌∙◌, subst}
 use Rattle.std.specs.Prelude.{slice_get}
-use Rattle.std.proofs.lemmas.Bool.{eqb-true, eq-eqb}
 use Rattle.wx_id.specs.declared.numbers.ContextNo.{ContextNo}
-use Rattle.wx_machine.specs.declared.entries.Who.{Who}
 use Rattle.wx_machine.specs.declared.entries.Who.TheVariants.{Context as ByContext}
 use Rattle.wx_machine.specs.declared.entries.Entry.{Entry}
-use Rattle.wx_machine.specs.Contexts.{is_by}
 use Rattle.wx_script.specs.declared.script.Command.{Command}
 use Rattle.wx_script.specs.Places.{place_behind, place_of}
 use Rattle.wx_script.specs.Ends.{entries_by, numbered}
+use Rattle.wx_script.proofs.ByLemmas.{is_by-own, is_by-other}
 use Rattle.wx_endpoint.specs.Turn.{CursorState}
 use Rattle.wx_run.specs.Cursors.{cursor_of, cursors_from, scripts_in}
-
-pub is_by-own : (who : Who) (c : ContextNo) → who ≡ ByContext c → is_by who c ≡ true
-is_by-own who c own = ap (λ w. is_by w c) own ∙ eq-eqb c.0 c.0 refl
-
-pub is_by-other : (who : Who) (d c : ContextNo) → who ≡ ByContext d → d.0 ≢ c.0 → is_by who c ≡ false
-is_by-other who d c own other =
-    ap (λ w. is_by w c) own
-    ∙ elim (eqb d.0 c.0) as (λ b. eqb d.0 c.0 ≡ b → b ≡ false) [
-      | true ↦ λ is. absurd (other (eqb-true d.0 c.0 is))
-      | false ↦ λ is. refl
-    ] refl
 
 pub place_of-own : (s : List Command) (c : ContextNo) (past : List Entry) (e : Entry) → e.who ≡ ByContext c → place_of s c (e ∷ past) ≡ place_behind s (place_of s c past) e.answer
 unfolding place_of

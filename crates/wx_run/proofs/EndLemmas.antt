@@ -1,61 +1,20 @@
 -- How cursors tell the end of a run.
 use Rattle.std.proofs.Common.{◌≡◌, ℕ, zero, suc, ◌+◌, ◌<◌, length, set, cond, arith, Bool, true, false, List, [], ◌∷◌, Some, None, refl, sym, ap, ◌∙◌, subst}
 use Rattle.std.specs.declared.option.Option.{Option}
-use Rattle.std.specs.Prelude.{slice_get, is_none, not, ◌&&◌, nat_le}
-use Rattle.std.specs.Option.{option_map}
+use Rattle.std.specs.Prelude.{slice_get, not, ◌&&◌, nat_le}
 use Rattle.wx_id.specs.declared.numbers.ContextNo.{ContextNo}
-use Rattle.wx_id.specs.declared.numbers.ChannelNo.{ChannelNo}
-use Rattle.wx_machine.specs.Carried.{text_of}
-use Rattle.wx_machine.specs.declared.entries.Call.TheVariants as call
 use Rattle.wx_machine.specs.declared.entries.Entry.{Entry}
-use Rattle.wx_script.specs.declared.script.Act.{Act}
-use Rattle.wx_script.specs.declared.script.Act.TheVariants as act
 use Rattle.wx_script.specs.declared.script.Command.{Command}
-use Rattle.wx_script.specs.Places.{Variables, Next, Place, outside, within, left, asks, waits, unbegun, echoing, answering, begins_with, channel_of, unskipped, or_ends, asks_first, asks_answer, next_at, place_of}
-use Rattle.wx_script.specs.Ends.{numbered, is_end, has_ended, IsDone, is_spent, spent_from, spent_of, entries_by, entry_limit}
-use Rattle.wx_endpoint.specs.Turn.{CursorState, is_left}
+use Rattle.wx_script.specs.Places.{is_left, place_of}
+use Rattle.wx_script.specs.Ends.{numbered, has_ended, IsDone, is_spent, spent_from, spent_of, entries_by, entry_limit}
+use Rattle.wx_script.proofs.LeftLemmas.{end_is_left}
+use Rattle.wx_endpoint.specs.Turn.{CursorState}
 use Rattle.wx_run.specs.Cursors.{cursor_of, cursors_from, AreBehind, is_spent_at, first_spent_in, all_left}
-
--- ---- nothing comes next only behind the `leave`
-
-mapped : (f : ChannelNo → Next) (o : Option ChannelNo) → ((k : ChannelNo) → is_end (f k) ≡ false) → is_none (option_map f o) ≡ false → is_end (or_ends (option_map f o)) ≡ false
-mapped f None never is = absurd cc
-mapped f (Some k) never is = never k
-
-begins : (variables : Variables) (a : Act) → is_none (begins_with variables a) ≡ false → is_end (or_ends (begins_with variables a)) ≡ false
-begins variables (act.Listen l) is = refl
-begins variables (act.Connect v target name) is = refl
-begins variables (act.Post v text) is = mapped (λ k. asks (call.Post k text)) (channel_of variables v) (λ k. refl) is
-begins variables (act.Disconnect v) is = mapped (λ k. asks (call.Disconnect k)) (channel_of variables v) (λ k. refl) is
-begins variables act.Take is = refl
-begins variables (act.AwaitConnect v) is = refl
-begins variables (act.AwaitMessage v) is = mapped (λ k. waits) (channel_of variables v) (λ k. refl) is
-begins variables (act.AwaitClose v) is = mapped (λ k. waits) (channel_of variables v) (λ k. refl) is
-begins variables (act.Echo n) is = refl
-
-asks_something : (variables : Variables) (acts : List Act) → is_end (asks_first variables (unskipped variables acts)) ≡ false
-asks_something variables [] = refl
-asks_something variables (a ∷ acts) =
-    elim (is_none (begins_with variables a)) as (λ b. is_none (begins_with variables a) ≡ b → is_end (asks_first variables (cond b (unskipped variables acts) (a ∷ acts))) ≡ false) [
-      | true ↦ λ is. asks_something variables acts
-      | false ↦ λ is. begins variables a is
-    ] refl
-
-answers_something : (k : ChannelNo) (o : Option (List ℕ)) → is_end (asks_answer k o) ≡ false
-answers_something k None = refl
-answers_something k (Some text) = refl
-
-is_end-next_at : (past : List Entry) (place : Place) → is_end (next_at past place) ≡ is_left place
-is_end-next_at past outside = refl
-is_end-next_at past (within unbegun acts variables) = asks_something variables acts
-is_end-next_at past (within (echoing n) acts variables) = refl
-is_end-next_at past (within (answering n k e) acts variables) = answers_something k (text_of past e)
-is_end-next_at past left = refl
 
 -- ---- spent
 
 is_spent-cursor_of : (s : List Command) (c : ContextNo) (past : List Entry) → is_spent s c past ≡ is_spent_at (cursor_of s c past)
-is_spent-cursor_of s c past = ap (λ b. nat_le entry_limit (entries_by c past) && not b) (is_end-next_at past (place_of s c past))
+is_spent-cursor_of s c past = ap (λ b. nat_le entry_limit (entries_by c past) && not b) (end_is_left past (place_of s c past))
 
 spent_from-cursors : (ss : List (List Command)) (n : ℕ) (past : List Entry) → spent_from n ss past ≡ first_spent_in n (cursors_from ss n past)
 spent_from-cursors [] n past = refl
@@ -109,7 +68,7 @@ ended_from (x ∷ ss) n zero m s past all is at =
     let same : x ≡ s = cc in
     let here : n ≡ m = omega arith in
     let first : has_ended x (numbered n) past ≡ true =
-    is_end-next_at past (place_of x (numbered n) past) ∙ (both_true (is_left (place_of x (numbered n) past)) (all_left (cursors_from ss (n + 1) past)) all).0 in
+    end_is_left past (place_of x (numbered n) past) ∙ (both_true (is_left (place_of x (numbered n) past)) (all_left (cursors_from ss (n + 1) past)) all).0 in
     subst (λ m. has_ended s (numbered m) past ≡ true) here (subst (λ s. has_ended s (numbered n) past ≡ true) same first)
 ended_from (x ∷ ss) n (suc k) m s past all is at =
     let next : m ≡ n + 1 + k = omega arith in
@@ -118,7 +77,7 @@ ended_from (x ∷ ss) n (suc k) m s past all is at =
 left_from : (ss : List (List Command)) (n : ℕ) (past : List Entry) → ((k m : ℕ) (s : List Command) → slice_get ss k ≡ Some s → m ≡ n + k → has_ended s (numbered m) past ≡ true) → all_left (cursors_from ss n past) ≡ true
 left_from [] n past ended = refl
 left_from (s ∷ ss) n past ended =
-    let first : is_left (place_of s (numbered n) past) ≡ true = sym (is_end-next_at past (place_of s (numbered n) past)) ∙ ended 0 n s refl (omega arith) in
+    let first : is_left (place_of s (numbered n) past) ≡ true = sym (end_is_left past (place_of s (numbered n) past)) ∙ ended 0 n s refl (omega arith) in
     let rest : all_left (cursors_from ss (n + 1) past) ≡ true = left_from ss (n + 1) past (λ k m x is at. ended (suc k) m x is (omega (arith, at))) in
     ap (λ b. b && all_left (cursors_from ss (n + 1) past)) first ∙ rest
 

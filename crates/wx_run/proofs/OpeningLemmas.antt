@@ -28,6 +28,7 @@ use Rattle.wx_script.specs.SceneValue.{SceneValue}
 use Rattle.wx_script.specs.Places.{outside, place_of, place_behind, at_start, next_at, next_of, asks}
 use Rattle.wx_script.specs.Carries.{MayCome}
 use Rattle.wx_script.specs.Ends.{numbered, entries_by, entry_limit, is_idle}
+use Rattle.wx_script.proofs.ByLemmas.{is_by-own, is_by-other}
 use Rattle.wx_endpoint.specs.History.{seen_by, MayStand, CarriesOn}
 use Rattle.wx_endpoint.specs.Turn.{CursorState}
 use Rattle.wx_run.specs.declared.outcome.RunEnd.{RunEnd}
@@ -39,7 +40,7 @@ use Rattle.wx_run.specs.Round.{AllStand, AreRounds, Follows, IsWithinLimit}
 use Rattle.wx_run.specs.Run.{IsRunOf}
 use Rattle.wx_run.specs.Step.{IsReady, Moves, IsStep}
 use Rattle.wx_run.proofs.ListLemmas.{take-snoc, length-take-at}
-use Rattle.wx_run.proofs.CursorLemmas.{is_by-own, is_by-other, place_of-own, place_of-other, entries_by-own, entries_by-other, cursors_from-later, cursors_from-append, scripts_in-cursors_from}
+use Rattle.wx_run.proofs.CursorLemmas.{place_of-own, place_of-other, entries_by-own, entries_by-other, cursors_from-later, cursors_from-append, scripts_in-cursors_from}
 use Rattle.wx_run.proofs.SeenLemmas.{may_stand}
 use Rattle.wx_run.proofs.RoundLemmas.{follows_script, within_more}
 use Rattle.wx_run.proofs.RunLemmas.{begins_with}
@@ -190,14 +191,7 @@ behind_more scripts i s ps p past e is behind own stands =
 first_next : (past : List Entry) (script : List Command) (l : Listens) → first_listen script ≡ Some l → next_at past (at_start script) ≡ asks (call.Listen l)
 first_next past [] l is = absurd cc
 first_next past (Plain (act.Listen k) ∷ commands) l is = let same : k ≡ l = cc in ap (λ k. asks (call.Listen k)) same
-first_next past (Plain (act.Connect v target name) ∷ commands) l is = absurd cc
-first_next past (Plain (act.Post v text) ∷ commands) l is = absurd cc
-first_next past (Plain (act.Disconnect v) ∷ commands) l is = absurd cc
-first_next past (Plain act.Take ∷ commands) l is = absurd cc
-first_next past (Plain (act.AwaitConnect v) ∷ commands) l is = absurd cc
-first_next past (Plain (act.AwaitMessage v) ∷ commands) l is = absurd cc
-first_next past (Plain (act.AwaitClose v) ∷ commands) l is = absurd cc
-first_next past (Plain (act.Echo n) ∷ commands) l is = absurd cc
+first_next past (Plain _ ∷ commands) l is = absurd cc
 first_next past (Repeat n a ∷ commands) l is = absurd cc
 
 script_at : (endpoints : List SceneEndpoint) (i : ℕ) (e : SceneEndpoint) → slice_get endpoints i ≡ Some e → slice_get (scripts_at endpoints) i ≡ Some e.script

@@ -11,12 +11,9 @@ use Rattle.wx_script.specs.declared.script.Command.{Command}
 use Rattle.wx_script.specs.Places.{behind_entry, place_of, next_at, next_of}
 use Rattle.wx_script.specs.Carries.{MayCome, IsAskedOf, AskedOf}
 use Rattle.wx_script.specs.Ends.{entries_by}
-use Rattle.wx_endpoint.specs.History.{entries_in, seen_by, own_in, place_in, MayStand, CarriesOn}
+use Rattle.wx_endpoint.specs.History.{seen_by, own_in, place_in, MayStand, CarriesOn}
+use Rattle.wx_endpoint.proofs.BrokerLemmas.{entries_in-seen_by}
 use Rattle.wx_run.specs.Round.{Follows}
-
-pub entries_in-seen_by : (c : ContextNo) (past : List Entry) → entries_in (seen_by c past) ≡ past
-entries_in-seen_by c [] = refl
-entries_in-seen_by c (e ∷ past) = ap (λ es. e ∷ es) (entries_in-seen_by c past)
 
 pub place_in-seen_by : (s : List Command) (c : ContextNo) (past : List Entry) → place_in s (seen_by c past) ≡ place_of s c past
 unfolding place_of

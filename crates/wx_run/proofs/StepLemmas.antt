@@ -11,17 +11,18 @@ use Rattle.wx_machine.specs.Answers.{FollowsMachine}
 use Rattle.wx_machine.specs.Contexts.{contexts}
 use Rattle.wx_machine.specs.Each.{EachAfter}
 use Rattle.wx_machine.specs.Events.{has_pending}
-use Rattle.wx_script.specs.Places.{Place, outside, within, left, waits, ends, next_at, next_of}
+use Rattle.wx_script.specs.Places.{Place, outside, within, left, is_left, waits, ends, next_at, next_of}
 use Rattle.wx_script.specs.Ends.{is_idle, entry_limit}
 use Rattle.wx_endpoint.specs.History.{entries_in, seen_by, CarriesOn}
 use Rattle.wx_endpoint.specs.Steps.{DeskState, IsSound, MakesNone, own_entry}
 use Rattle.wx_endpoint.specs.Turn as turn
-use Rattle.wx_endpoint.specs.Turn.{CursorState, StandsBehind, is_left}
+use Rattle.wx_endpoint.specs.Turn.{CursorState, StandsBehind}
 use Rattle.wx_endpoint.specs.declared.cursor.Turned.{Turned}
 use Rattle.wx_endpoint.specs.declared.cursor.Turned.TheVariants.{Waits, Ended, Spent}
 use Rattle.wx_run.specs.Cursors.{cursor_of, is_spent_at}
 use Rattle.wx_run.specs.Step.{IsReady, Moves, Rests}
-use Rattle.wx_run.proofs.SeenLemmas.{entries_in-seen_by, place_in-seen_by, own_in-seen_by, may_come}
+use Rattle.wx_endpoint.proofs.BrokerLemmas.{entries_in-seen_by}
+use Rattle.wx_run.proofs.SeenLemmas.{place_in-seen_by, own_in-seen_by, may_come}
 
 -- the desk of context c over the one journal
 abbrev pub desk_of : ContextNo → WorldLists → List Entry → DeskState

@@ -3,9 +3,9 @@ use Rattle.std.specs.Prelude.{◌≡◌, ℕ, ◌+◌, ◌-◌, Bool, true, ◌&
 use Rattle.wx_id.specs.declared.numbers.ContextNo.{ContextNo}
 use Rattle.wx_machine.specs.declared.entries.Entry.{Entry}
 use Rattle.wx_script.specs.declared.script.Command.{Command}
-use Rattle.wx_script.specs.Places.{place_of, at_start}
+use Rattle.wx_script.specs.Places.{place_of, at_start, is_left}
 use Rattle.wx_script.specs.Ends.{entries_by, entry_limit, numbered}
-use Rattle.wx_endpoint.specs.Turn.{CursorState, is_left}
+use Rattle.wx_endpoint.specs.Turn.{CursorState}
 
 -- the scripts of cursors
 abbrev pub scripts_in : List CursorState → List (List Command)

@@ -11,9 +11,9 @@ ghost use Rattle.wx_machine.specs.declared.entries.Answer.TheVariants as Answer;
 use crate::step::make_turn;
 use std::alloc::Global;
 use wx_broker::Broker;
+use wx_context::Context;
 use wx_endpoint::{BrokerDesk, Cursor};
 use wx_id::{ContextNo, NoMemory};
-use wx_context::Context;
 use wx_script::{Act, Command, Scene, SceneEndpoint};
 
 /// Whether the first command is a plain `listen`.

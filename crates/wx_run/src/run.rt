@@ -7,8 +7,8 @@ use crate::rounds::run_rounds;
 use std::alloc::Global;
 use wx_broker::Broker;
 use wx_endpoint::BrokerDesk;
-use wx_id::{ContextNo, NoMemory};
 use wx_external::World;
+use wx_id::{ContextNo, NoMemory};
 use wx_script::Scene;
 
 /// A run of the scene: the opening, and round after round until no endpoint can do anything or one is spent.

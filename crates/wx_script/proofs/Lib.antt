@@ -1,4 +1,5 @@
 pub mod Chosen
+pub mod OnLiterals
 pub mod WordLemmas
 pub mod NumberLemmas
 pub mod Again

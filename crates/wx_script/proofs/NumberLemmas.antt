@@ -10,25 +10,23 @@ use Rattle.std.proofs.lemmas.Bool.Decides.{nat_tests}
 use Rattle.std.proofs.lemmas.Option.{cond_some}
 use Rattle.std.proofs.lemmas.Str.Parse.{IsNumeralModel, IsDigitsTest, numerals_by_value, parse_digits}
 use Rattle.std.proofs.lemmas.Fmt.{digits_decimal, digits_value-decimal, decimal-digits_value, decimal_digit, decimal_nonempty, first_decimal}
-use Rattle.wx_script.specs.Words.{is_digit, is_number, is_given, is_count}
-use Rattle.wx_script.specs.Line.{number_at, count_at, where_so}
+use Rattle.wx_script.specs.Words.{is_digit, is_number, is_given, is_small, is_count}
+use Rattle.wx_id.specs.declared.numbers.TabId.{TabId}
+use Rattle.wx_id.specs.declared.numbers.FrameId.{FrameId}
+use Rattle.wx_script.specs.Line.{number_at, count_at, tab_id, tab_id_at, frame_id, frame_id_at, where_so}
 use Rattle.std.specs.Result.{OkIff}
 use Rattle.wx_script.proofs.Chosen.{bind_some}
-use Rattle.wx_script.proofs.WordLemmas.{both, is_no_space, IsUtf8-from_list_all}
+use Rattle.wx_script.proofs.WordLemmas.{both, other, is_no_space, no_space, IsUtf8-from_list_all}
 
-other : (a b : Bool) → (a && b) ≡ true → b ≡ true
-other true b e = e
-other false b e = absurd cc
-
-tells_digits : IsDigitsTest (λ ds. list_all is_digit ds ≡ true)
-tells_digits = record {
+are_digits : IsDigitsTest (λ ds. list_all is_digit ds ≡ true)
+are_digits = record {
   empty = refl;
   parts = λ c cs e. let d = both (is_digit c) (list_all is_digit cs) e in ((leb-true 48 c (both (nat_le 48 c) (nat_le c 57) d), leb-true c 57 (other (nat_le 48 c) (nat_le c 57) d)), other (is_digit c) (list_all is_digit cs) e);
   more = λ c cs k e. rw (le-leb 48 c k.0, le-leb c 57 k.1) e;
 }
 
 digits : IsNumeralModel (λ ds. list_all is_digit ds ≡ true) (digits_value 10)
-digits = numerals_by_value _ tells_digits
+digits = numerals_by_value _ are_digits
 
 record HasDigits (ds : List ℕ) : Type 0 where
   all_digits : list_all is_digit ds ≡ true
@@ -64,19 +62,50 @@ number_spelled text is small =
     let less : digits_value 10 text < 4294967296 = ltb-true _ _ small in
     sym (decimal-digits_value digits text d.all_digits d.given d.no_zero (omega arith))
 
+pub record IsSpelledNumber (n : ℕ) (text : List ℕ) : Type 0 where
+  pub is_small : IsTrue (is_small n)
+  pub spelled : text ≡ decimal n
+
 -- what is read as a number is its decimal digits
-number_read : (text : List ℕ) (n : ℕ) → number_at text ≡ Some n → text ≡ decimal n
+number_read : (text : List ℕ) (n : ℕ) → number_at text ≡ Some n → IsSpelledNumber n text
 unfolding number_at
 number_read text n e =
     let q = cond_some _ _ _ e in
-    number_spelled text (both (is_number text) _ q.0) (other (is_number text) _ q.0) ∙ ap decimal q.1
+    let small : IsTrue (is_small (digits_value 10 text)) = other (is_number text) _ q.0 in
+    record {
+      is_small = subst (λ n. IsTrue (is_small n)) q.1 small;
+      spelled = number_spelled text (both (is_number text) _ q.0) small ∙ ap decimal q.1;
+    }
 
-number_again : (n : ℕ) → n < 4294967296 → number_at (decimal n) ≡ Some n
+number_again : (n : ℕ) → IsTrue (is_small n) → number_at (decimal n) ≡ Some n
 unfolding number_at
 number_again n h =
+    let small : n < 4294967296 = ltb-true n 4294967296 h in
     let big : n < 2 ^ 64 = omega arith in
     let is : digits_value 10 (decimal n) ≡ n = digits_value-decimal digits n big in
-    rw (is_number-decimal n big, is, lt-ltb n 4294967296 h) refl
+    rw (is_number-decimal n big, is, h) refl
+
+pub tab_id_read : (text : List ℕ) (t : TabId) → tab_id_at text ≡ Some t → IsSpelledNumber t.0 text
+unfolding tab_id_at
+tab_id_read text t e =
+    let p = bind_some (number_at text) _ t e in
+    let t_is : tab_id p.0 ≡ t = cc in
+    subst (λ (t : TabId). IsSpelledNumber t.0 text) t_is (number_read text p.0 p.1)
+
+pub tab_id_again : (t : TabId) → IsTrue (is_small t.0) → tab_id_at (decimal t.0) ≡ Some t
+unfolding tab_id_at
+tab_id_again t h = rw (number_again t.0 h) refl
+
+pub frame_id_read : (text : List ℕ) (f : FrameId) → frame_id_at text ≡ Some f → IsSpelledNumber f.0 text
+unfolding frame_id_at
+frame_id_read text f e =
+    let p = bind_some (number_at text) _ f e in
+    let f_is : frame_id p.0 ≡ f = cc in
+    subst (λ (f : FrameId). IsSpelledNumber f.0 text) f_is (number_read text p.0 p.1)
+
+pub frame_id_again : (f : FrameId) → IsTrue (is_small f.0) → frame_id_at (decimal f.0) ≡ Some f
+unfolding frame_id_at
+frame_id_again f h = rw (number_again f.0 h) refl
 
 pub record IsSpelledCount (n : ℕ) (text : List ℕ) : Type 0 where
   pub is_count : IsTrue (is_count n)
@@ -89,11 +118,11 @@ count_read text n e =
     let q = cond_some _ _ _ p.2 in
     record {
       is_count = subst (λ n. IsTrue (is_count n)) q.1 q.0;
-      spelled = number_read text p.0 p.1 ∙ ap decimal q.1;
+      spelled = (number_read text p.0 p.1).spelled ∙ ap decimal q.1;
     }
 
-count_small : (n : ℕ) → IsTrue (is_count n) → n < 4294967296
-count_small n h = let most : n ≤ 1000000 = leb-true n 1000000 (other (nat_le 1 n) (nat_le n 1000000) h) in omega (arith, most)
+count_small : (n : ℕ) → IsTrue (is_count n) → IsTrue (is_small n)
+count_small n h = let most : n ≤ 1000000 = leb-true n 1000000 (other (nat_le 1 n) (nat_le n 1000000) h) in lt-ltb n 4294967296 (omega (arith, most))
 
 pub count_again : (n : ℕ) → IsTrue (is_count n) → count_at (decimal n) ≡ Some n
 unfolding count_at
@@ -104,12 +133,11 @@ count_again n h = rw (number_again n (count_small n h), h) refl
 digit_is_no_space : (b : ℕ) → is_digit b ≡ true → is_no_space b ≡ true
 digit_is_no_space b h = grind (arith, nat_tests)
 
-digits_no_space : (ds : List ℕ) → list_all is_digit ds ≡ true → list_all is_no_space ds ≡ true
-digits_no_space [] h = refl
-digits_no_space (b ∷ ds) h = rw (digit_is_no_space b (both (is_digit b) (list_all is_digit ds) h)) (digits_no_space ds (other (is_digit b) (list_all is_digit ds) h))
+pub number_no_space : (n : ℕ) → IsTrue (is_small n) → list_all is_no_space (decimal n) ≡ true
+number_no_space n h = let small : n < 4294967296 = ltb-true n 4294967296 h in no_space is_digit digit_is_no_space (decimal n) (digits_decimal digits n (omega arith))
 
 pub count_no_space : (n : ℕ) → IsTrue (is_count n) → list_all is_no_space (decimal n) ≡ true
-count_no_space n h = let small = count_small n h in digits_no_space (decimal n) (digits_decimal digits n (omega arith))
+count_no_space n h = number_no_space n (count_small n h)
 
 digit_is_ascii : (b : ℕ) → is_digit b ≡ true → b < 128
 digit_is_ascii b h = grind (arith, nat_tests)

@@ -1,45 +1,66 @@
 -- A word and what stands behind it.
-use Rattle.std.proofs.Common.{◌≡◌, ℕ, Bool, true, false, not, ◌&&◌, cond, List, [], ◌∷◌, ◌++◌, length, refl, ap, arith, Some}
+use Rattle.std.proofs.Common.{◌≡◌, ◌≢◌, ℕ, suc, ◌+◌, Bool, true, false, not, ◌&&◌, cond, List, [], ◌∷◌, ◌++◌, length, refl, subst, ap, ◌∙◌, arith, Option, None, Some}
 use Rattle.std.specs.Prelude.{◌==◌, IsTrue, nat_le, nat_lt}
 use Rattle.std.specs.List.{list_all}
-use Rattle.std.proofs.lemmas.Bool.{eqb-true}
+use Rattle.std.proofs.lemmas.Bool.{eqb-true, ne_eqb}
 use Rattle.std.specs.Str.{IsUtf8, bytes_eq}
 use Rattle.std.specs.Prelude.{codes, get_or, ◌<◌}
 use Rattle.std.specs.List.{AllPass}
-use Rattle.std.proofs.lemmas.Str.{IsUtf8-from_ascii}
+use Rattle.std.proofs.lemmas.Str.{IsUtf8-from_ascii, IsUtf8-drop, IsCharBoundary-after_ascii}
+use Rattle.std.proofs.lemmas.List.{length-append}
+use Rattle.std.proofs.Math.Seq.{get_or-append_seam, drop-append-add}
 use Rattle.std.proofs.lemmas.Str.Ascii.{IsAscii-from_all}
 use Rattle.std.proofs.lemmas.Bool.Decides.{nat_tests}
 use Rattle.std.proofs.lemmas.List.Sums.{AllPass-from_list_all}
 use Rattle.wx_context.specs.Paths.{is_printable, is_page_path}
-use Rattle.wx_script.specs.Words.{word, rest, is_name, is_word, is_identifier, is_name_byte, is_letter}
+use Rattle.std.specs.Option.{option_or, unwrap_or}
+use Rattle.wx_script.specs.Words.{behind_slash, file_name, word, rest, behind, is_name, is_word, is_identifier, is_name_byte, is_letter}
 
 abbrev pub is_no_space : ℕ → Bool
 is_no_space b = not (b == 32)
 
-pub word-append : (w more : List ℕ) → list_all is_no_space w ≡ true → word (w ++ 32 ∷ more) ≡ w
-word-append [] more h = refl
-word-append (b ∷ w) more h =
-    elim (b == 32) as (λ t. (not t && list_all is_no_space w) ≡ true → cond t [] (b ∷ word (w ++ 32 ∷ more)) ≡ b ∷ w) [
+pub word-behind : (w : List ℕ) (more : Option (List ℕ)) → list_all is_no_space w ≡ true → word (w ++ behind more) ≡ w
+word-behind [] None h = refl
+word-behind [] (Some text) h = refl
+word-behind (b ∷ w) more h =
+    elim (b == 32) as (λ t. (not t && list_all is_no_space w) ≡ true → cond t [] (b ∷ word (w ++ behind more)) ≡ b ∷ w) [
       | true ↦ λ h. absurd cc
-      | false ↦ λ h. ap (λ v. b ∷ v) (word-append w more h)
+      | false ↦ λ h. ap (λ v. b ∷ v) (word-behind w more h)
     ] h
 
-pub rest-append : (w more : List ℕ) → list_all is_no_space w ≡ true → rest (w ++ 32 ∷ more) ≡ Some more
-rest-append [] more h = refl
-rest-append (b ∷ w) more h =
-    elim (b == 32) as (λ t. (not t && list_all is_no_space w) ≡ true → cond t (Some (w ++ 32 ∷ more)) (rest (w ++ 32 ∷ more)) ≡ Some more) [
+pub rest-behind : (w : List ℕ) (more : Option (List ℕ)) → list_all is_no_space w ≡ true → rest (w ++ behind more) ≡ more
+rest-behind [] None h = refl
+rest-behind [] (Some text) h = refl
+rest-behind (b ∷ w) more h =
+    elim (b == 32) as (λ t. (not t && list_all is_no_space w) ≡ true → cond t (Some (w ++ behind more)) (rest (w ++ behind more)) ≡ more) [
       | true ↦ λ h. absurd cc
-      | false ↦ λ h. rest-append w more h
+      | false ↦ λ h. rest-behind w more h
     ] h
 
--- a text with a space is its first word and what stands behind it
+-- a text is its first word and what stands behind it
+pub parts : (text : List ℕ) → text ≡ word text ++ behind (rest text)
+parts [] = refl
+parts (b ∷ bs) =
+    elim (b == 32) as (λ t. (b == 32) ≡ t → b ∷ bs ≡ cond t [] (b ∷ word bs) ++ behind (cond t (Some bs) (rest bs))) [
+      | true ↦ λ is. ap (λ n. n ∷ bs) (eqb-true b 32 is)
+      | false ↦ λ is. ap (λ v. b ∷ v) (parts bs)
+    ] refl
+
 pub two_parts : (text more : List ℕ) → rest text ≡ Some more → text ≡ word text ++ 32 ∷ more
-two_parts [] more e = absurd cc
-two_parts (b ∷ bs) more e =
-    elim (b == 32) as (λ t. (b == 32) ≡ t → cond t (Some bs) (rest bs) ≡ Some more → b ∷ bs ≡ cond t [] (b ∷ word bs) ++ 32 ∷ more) [
-      | true ↦ λ is e. let b_is : b ≡ 32 = eqb-true b 32 is in let same : bs ≡ more = cc in rw (b_is, same) refl
-      | false ↦ λ is e. ap (λ v. b ∷ v) (two_parts bs more e)
-    ] refl e
+two_parts text more e = parts text ∙ ap (λ r. word text ++ behind r) e
+
+pub both : (a b : Bool) → (a && b) ≡ true → a ≡ true
+both true b h = refl
+both false b h = absurd cc
+
+pub other : (a b : Bool) → (a && b) ≡ true → b ≡ true
+other true b e = e
+other false b e = absurd cc
+
+-- bytes that all pass a test that a space does not pass
+pub no_space : (p : ℕ → Bool) → ((b : ℕ) → p b ≡ true → is_no_space b ≡ true) → (w : List ℕ) → list_all p w ≡ true → list_all is_no_space w ≡ true
+no_space p none [] h = refl
+no_space p none (b ∷ w) h = rw (none b (both (p b) (list_all p w) h)) (no_space p none w (other (p b) (list_all p w) h))
 
 is_no_space-name_byte : (b : ℕ) → is_name_byte b ≡ true → is_no_space b ≡ true
 is_no_space-name_byte b h =
@@ -47,14 +68,6 @@ is_no_space-name_byte b h =
       | true ↦ λ is. let b_is : b ≡ 32 = eqb-true b 32 is in let wrong : is_name_byte 32 ≡ true = rw b_is at h in absurd cc
       | false ↦ λ is. refl
     ] refl
-
-name_bytes : (w : List ℕ) → list_all is_name_byte w ≡ true → list_all is_no_space w ≡ true
-name_bytes [] h = refl
-name_bytes (b ∷ w) h =
-    elim (is_name_byte b) as (λ t. is_name_byte b ≡ t → (t && list_all is_name_byte w) ≡ true → (is_no_space b && list_all is_no_space w) ≡ true) [
-      | true ↦ λ is h. rw (is_no_space-name_byte b is) (name_bytes w h)
-      | false ↦ λ is h. absurd cc
-    ] refl h
 
 -- the bytes of an identifier are bytes of names
 identifier_bytes : (w : List ℕ) → is_identifier w ≡ true → list_all is_name_byte w ≡ true
@@ -69,16 +82,20 @@ identifier_bytes (b ∷ w) h =
       | false ↦ λ first h. absurd cc
     ] refl h
 
-pub both : (a b : Bool) → (a && b) ≡ true → a ≡ true
-both true b h = refl
-both false b h = absurd cc
-
 name_bytes-is_name : (w : List ℕ) → is_name w ≡ true → list_all is_name_byte w ≡ true
 name_bytes-is_name w h = identifier_bytes w (both (is_identifier w) (not (bytes_eq w (codes "same"))) h)
 
 -- a name has no space
 pub name_no_space : (w : List ℕ) → IsTrue (is_name w) → list_all is_no_space w ≡ true
-name_no_space w h = name_bytes w (name_bytes-is_name w h)
+name_no_space w h = no_space is_name_byte is_no_space-name_byte w (name_bytes-is_name w h)
+
+-- a name is not `same`
+pub name_not_same : (w : List ℕ) → IsTrue (is_name w) → bytes_eq w (codes "same") ≡ false
+name_not_same w h = is_not (bytes_eq w (codes "same")) (other (is_identifier w) (not (bytes_eq w (codes "same"))) h)
+  where
+    is_not : (b : Bool) → not b ≡ true → b ≡ false
+    is_not true h = absurd cc
+    is_not false h = refl
 
 -- a text whose bytes all pass a test that only ASCII passes is UTF-8
 pub IsUtf8-from_list_all : (p : ℕ → Bool) (xs : List ℕ) → ((b : ℕ) → p b ≡ true → b < 128) → list_all p xs ≡ true → IsUtf8 xs
@@ -102,6 +119,13 @@ word_bytes : (w : List ℕ) → is_word w ≡ true → is_printable w ≡ true
 word_bytes [] h = absurd cc
 word_bytes (b ∷ w) h = h
 
+printable_byte_is_no_space : (b : ℕ) → is_printable_byte b ≡ true → is_no_space b ≡ true
+printable_byte_is_no_space b h = grind (arith, nat_tests)
+
+-- a word has no space
+pub word_no_space : (w : List ℕ) → IsTrue (is_word w) → list_all is_no_space w ≡ true
+word_no_space w h = no_space is_printable_byte printable_byte_is_no_space w (word_bytes w h)
+
 pub words_are_utf8 : (w : List ℕ) → is_word w ≡ true → IsUtf8 w
 words_are_utf8 w h = IsUtf8-from_list_all is_printable_byte w printable_byte_is_ascii (word_bytes w h)
 
@@ -115,3 +139,34 @@ path_bytes (b ∷ w) h =
 
 pub paths_are_utf8 : (w : List ℕ) → is_page_path w ≡ true → IsUtf8 w
 paths_are_utf8 w h = IsUtf8-from_list_all is_printable_byte w printable_byte_is_ascii (path_bytes w h)
+
+-- ---- a file's own name
+
+some_or : {A : Type 0} (o : Option A) (x : A) → option_or o (Some x) ≡ Some (unwrap_or o x)
+some_or None x = refl
+some_or (Some y) x = refl
+
+behind_slash-slash : (front more : List ℕ) → behind_slash (front ++ 47 ∷ more) ≡ Some (file_name more)
+behind_slash-slash [] more = some_or (behind_slash more) more
+behind_slash-slash (b ∷ front) more = rw (behind_slash-slash front more) refl
+
+pub file_name-slash : (text front more : List ℕ) → text ≡ front ++ 47 ∷ more → file_name text ≡ file_name more
+file_name-slash text front more is = rw (is, behind_slash-slash front more) refl
+
+behind_slash-none : (file : List ℕ) → ((k : ℕ) → k < length file → get_or file k 0 ≢ 47) → behind_slash file ≡ None
+behind_slash-none [] none = refl
+behind_slash-none (b ∷ bs) none =
+    let other_byte : (b == 47) ≡ false = ne_eqb b 47 (none 0 (omega arith)) in
+    rw (other_byte, behind_slash-none bs (λ k within. none (suc k) (omega (arith, within)))) refl
+
+pub file_name-no_slash : (file : List ℕ) → ((k : ℕ) → k < length file → get_or file k 0 ≢ 47) → file_name file ≡ file
+file_name-no_slash file none = rw (behind_slash-none file none) refl
+
+-- what stands behind a `/` of a text is a text
+pub utf8_behind_slash : (text front more : List ℕ) → text ≡ front ++ 47 ∷ more → IsUtf8 text → IsUtf8 more
+utf8_behind_slash text front more is utf8 =
+    let whole : IsUtf8 (front ++ 47 ∷ more) = subst IsUtf8 is utf8 in
+    let within : length front < length (front ++ 47 ∷ more) = omega (arith, length-append front (47 ∷ more)) in
+    let slash : get_or (front ++ 47 ∷ more) (length front) 0 ≡ 47 = get_or-append_seam front 47 more 0 in
+    subst IsUtf8 (drop-append-add front (47 ∷ more) 1)
+    (IsUtf8-drop (front ++ 47 ∷ more) (length front + 1) whole (IsCharBoundary-after_ascii (front ++ 47 ∷ more) (length front) whole within (omega (arith, slash))))

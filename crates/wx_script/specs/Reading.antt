@@ -5,6 +5,7 @@ use Rattle.wx_script.specs.declared.scene.SceneKind.{SceneKind}
 use Rattle.wx_script.specs.declared.scene.SceneKind.TheVariants as kind
 use Rattle.wx_script.specs.declared.scene.SceneReadFault.{SceneReadFault}
 use Rattle.wx_script.specs.declared.scene.SceneReadFault.TheVariants as fault
+use Rattle.wx_script.specs.Draft.{Draft}
 use Rattle.wx_script.specs.Scene.{is_line_feed}
 
 -- the bytes up to the first line feed
@@ -21,15 +22,15 @@ abbrev pub FailsAs : {A : Type 0} → SceneReadFault → Result A SceneFault →
 FailsAs fault.NoMemory read = Unit {0}
 FailsAs (fault.Bad f) read = read ≡ Err f
 
--- what is read is this, unless memory ran out
-abbrev pub Reads : {A B : Type 0} → B → Result A SceneReadFault → Result B SceneFault → Type 0
-Reads value (Ok x) read = read ≡ Ok value
-Reads value (Err e) read = FailsAs e read
+-- the draft is what is read, unless memory ran out
+abbrev pub ReadsDraft : {A : Type 0} → Draft → Result A SceneReadFault → Result Draft SceneFault → Type 0
+ReadsDraft new (Ok x) read = read ≡ Ok new
+ReadsDraft new (Err e) read = FailsAs e read
 
 -- the result is what is read, unless memory ran out
-abbrev pub ReadsIt : {A : Type 0} → Result A SceneReadFault → Result A SceneFault → Type 0
-ReadsIt (Ok x) read = read ≡ Ok x
-ReadsIt (Err e) read = FailsAs e read
+abbrev pub ReadsResult : {A : Type 0} → Result A SceneReadFault → Result A SceneFault → Type 0
+ReadsResult (Ok x) read = read ≡ Ok x
+ReadsResult (Err e) read = FailsAs e read
 
 -- a kind that a line can have: a file that is missing or too large has no faulty line
 abbrev pub is_of_a_line : SceneKind → Bool

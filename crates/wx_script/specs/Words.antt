@@ -1,6 +1,7 @@
 -- The words of a line, and which bytes each sort of word has.
 use Rattle.std.specs.Prelude.{ℕ, Bool, true, false, ◌&&◌, ◌||◌, not, List, [], ◌∷◌, length, Option, Some, None, ◌==◌, nat_lt, nat_le, codes, if◌then◌else◌}
 use Rattle.std.specs.List.{list_all}
+use Rattle.std.specs.Option.{option_or, unwrap_or}
 use Rattle.std.specs.Str.{bytes_eq}
 use Rattle.wx_context.specs.Paths.{is_printable}
 
@@ -13,6 +14,11 @@ word (b ∷ bs) = if b == 32 then [] else b ∷ word bs
 abbrev pub rest : List ℕ → Option (List ℕ)
 rest [] = None
 rest (b ∷ bs) = if b == 32 then Some bs else rest bs
+
+-- a space and what stands behind it, if there is something
+abbrev pub behind : Option (List ℕ) → List ℕ
+behind None = []
+behind (Some text) = 32 ∷ text
 
 abbrev pub is_digit : ℕ → Bool
 is_digit b = nat_le 48 b && nat_le b 57
@@ -39,7 +45,7 @@ is_identifier (b ∷ bs) = is_letter b && list_all is_name_byte bs && nat_lt (le
 abbrev pub is_name : List ℕ → Bool
 is_name text = is_identifier text && not (bytes_eq text (codes "same"))
 
--- an id, a path or a port name: one or more printable bytes
+-- an id, a file, a path, a URL or a port name: one or more printable bytes
 abbrev pub is_word : List ℕ → Bool
 is_word [] = false
 is_word (b ∷ bs) = is_printable (b ∷ bs)
@@ -49,6 +55,10 @@ abbrev pub is_number : List ℕ → Bool
 is_number [] = false
 is_number (b ∷ bs) = list_all is_digit (b ∷ bs) && (not (b == 48) || not (is_given bs))
 
+-- at most 4,294,967,295
+abbrev pub is_small : ℕ → Bool
+is_small n = nat_lt n 4294967296
+
 -- how often something is done: from 1 to 1,000,000
 abbrev pub is_count : ℕ → Bool
 is_count n = nat_le 1 n && nat_le n 1000000
@@ -57,3 +67,12 @@ is_count n = nat_le 1 n && nat_le n 1000000
 abbrev pub is_comment : List ℕ → Bool
 is_comment [] = true
 is_comment (b ∷ bs) = b == 35
+
+-- what stands behind the last `/`, if there is one
+abbrev pub behind_slash : List ℕ → Option (List ℕ)
+behind_slash [] = None
+behind_slash (b ∷ bs) = option_or (behind_slash bs) (if b == 47 then Some bs else None)
+
+-- a file's own name: the part behind the last `/`, which is the whole where there is none
+abbrev pub file_name : List ℕ → List ℕ
+file_name file = unwrap_or (behind_slash file) file

@@ -2,7 +2,7 @@
 //! does nothing.
 ghost use Rattle.std.specs.Prelude.{◌≡◌, Ok, Err, [], ◌∷◌, ◌++◌, codes};
 ghost use Rattle.wx_script.specs.declared.scene.SceneKind.TheVariants as kind;
-ghost use Rattle.wx_script.specs.Examples.{HasFault, IsScene, ReadsTheSpelling, HasOneSpelling, TwoPages, NumberedVariables, CommentsPassedOver, Awaiting, RepeatBinds, LastLineUnended, extension_x, id_a};
+ghost use Rattle.wx_script.specs.Examples.{HasFault, IsScene, ReadsTheSpelling, HasOneSpelling, TwoPages, NumberedVariables, CommentsPassedOver, Awaiting, RepeatBinds, LastLineUnended, Requests, OneName, Targets, Files, Documents, NoWebUrl, without_files, extension_x};
 ghost use Rattle.wx_script.specs.Scene.{scene_of, fault_at};
 
 /// Every line has one spelling.
@@ -13,20 +13,31 @@ pub fn one_spelling()
 {}
 
 /// Scenes that are read.
-#[tactic(auto, unfolding(crate::specs::Line::name_at, crate::specs::Line::extension_at, crate::specs::Line::page_at, crate::specs::Line::listen_at, crate::specs::Line::connect_at, crate::specs::Line::post_at, crate::specs::Line::disconnect_at, crate::specs::Line::port_name_at, crate::specs::Line::number_at, crate::specs::Line::count_at, crate::specs::Line::await_with, crate::specs::Line::await_at, crate::specs::Line::echo_at, crate::specs::Line::channel_act_with, crate::specs::Line::act_with, crate::specs::Line::act_at, crate::specs::Line::repeat_at, crate::specs::Line::command_at, crate::specs::Line::declaration_with, crate::specs::Line::declaration_at, crate::specs::Line::line_at, wx_json::specs::Test::is_json_text, wx_json::specs::Machine::next, wx_json::specs::Coding::code))]
+#[tactic(auto, unfolding(crate::proofs::OnLiterals::scenes_on_literals))]
 pub fn scenes()
     ensures head_line_alone { IsScene [] [] [] }
     ensures two_pages { TwoPages }
     ensures numbered_variables { NumberedVariables }
-    ensures head_line_without_line_feed { scene_of (codes "wx scene 1 chrome") ≡ Ok (record { extensions = []; hosts = []; files = []; endpoints = [] }) }
+    ensures head_line_without_line_feed { scene_of (codes "wx scene 1 chrome") ≡ Ok (without_files [] []) }
     ensures last_line_without_line_feed { LastLineUnended }
     ensures comments { CommentsPassedOver }
     ensures awaits_repeats_and_echoes { Awaiting }
     ensures repeat_binds { RepeatBinds }
 {}
 
+/// Scenes of requests, targets, files and documents that are read.
+#[tactic(auto, unfolding(crate::proofs::OnLiterals::scenes_on_literals))]
+pub fn wider_scenes()
+    ensures requests { Requests }
+    ensures one_name_for_each_sort { OneName }
+    ensures targets { Targets }
+    ensures files { Files }
+    ensures documents { Documents }
+    ensures no_web_url { NoWebUrl }
+{}
+
 /// The first faulty line of scenes, and what is wrong with it.
-#[tactic(auto, unfolding(crate::specs::Line::name_at, crate::specs::Line::extension_at, crate::specs::Line::page_at, crate::specs::Line::listen_at, crate::specs::Line::connect_at, crate::specs::Line::post_at, crate::specs::Line::disconnect_at, crate::specs::Line::port_name_at, crate::specs::Line::number_at, crate::specs::Line::count_at, crate::specs::Line::await_with, crate::specs::Line::await_at, crate::specs::Line::echo_at, crate::specs::Line::channel_act_with, crate::specs::Line::act_with, crate::specs::Line::act_at, crate::specs::Line::repeat_at, crate::specs::Line::command_at, crate::specs::Line::declaration_with, crate::specs::Line::declaration_at, crate::specs::Line::line_at, wx_json::specs::Test::is_json_text, wx_json::specs::Machine::next, wx_json::specs::Coding::code))]
+#[tactic(auto, unfolding(crate::proofs::OnLiterals::scenes_on_literals))]
 pub fn faults()
     ensures no_bytes { scene_of [] ≡ Err (fault_at 1 kind.Head) }
     ensures behind_comments { HasFault ([] ∷ codes "# take" ∷ [] ∷ codes "take" ∷ []) 5 kind.Form }
@@ -44,5 +55,11 @@ pub fn faults()
     ensures no_times { HasFault (extension_x ∷ codes "page p x /p" ∷ codes "  echo 0" ∷ []) 4 kind.Form }
     ensures no_json_text { HasFault (extension_x ∷ codes "page p x /p" ∷ codes "  connect ch own" ∷ codes "  post ch {" ∷ []) 5 kind.Json }
     ensures unbound_before_json { HasFault (extension_x ∷ codes "page p x /p" ∷ codes "  post ch {" ∷ []) 4 kind.Unbound }
+    ensures files_of_one_name { HasFault (codes "host a/e.json" ∷ codes "host b/e.json" ∷ []) 3 kind.Repeated }
+    ensures another_sort_of_variable { HasFault (extension_x ∷ codes "page p x /p" ∷ codes "  send r own 1" ∷ codes "  reply r 1" ∷ []) 5 kind.Unbound }
+    ensures flags_in_another_order { HasFault (extension_x ∷ codes "page p x /p" ∷ codes "  listen message connect" ∷ []) 4 kind.Form }
+    ensures frame_without_json { HasFault (extension_x ∷ codes "page p x /p" ∷ codes "  send r tab 7 frame 1" ∷ []) 4 kind.Form }
+    ensures frame_behind_two_spaces { HasFault (extension_x ∷ codes "page p x /p" ∷ codes "  send r tab 7  frame 1" ∷ []) 4 kind.Json }
+    ensures unknown_before_json { HasFault (extension_x ∷ codes "page p x /p" ∷ codes "  send r ext y {" ∷ []) 4 kind.Unknown }
     ensures repeated_before_unknown { HasFault (extension_x ∷ codes "page p x /p" ∷ codes "page p nobody /p" ∷ []) 4 kind.Repeated }
 {}

@@ -16,6 +16,8 @@ mod tests;
 mod word;
 
 pub use scene::{
-    Scene, SceneEndpoint, SceneExtension, SceneFault, SceneFile, SceneKind, SceneReadFault, SpentWho,
+    Scene, SceneEndpoint, SceneExtension, SceneFault, SceneFile, SceneKind, SceneReadFault,
+    SpentWho,
 };
 pub use script::{Act, Command, Heard, Received, Script, Var};
+pub use word::file_name;

@@ -1,25 +1,48 @@
-ghost use Rattle.std.specs.Prelude.{◌≡◌, IfSome, IfNone};
+ghost use Rattle.std.specs.Prelude.{◌≡◌, IfSome, IfNone, option_copied};
 ghost use Rattle.std.specs.Option.{option_map};
 ghost use Rattle.wx_script.specs.Line as forms;
 ghost use Rattle.wx_script.specs.Spelling.{spelling, IsLine};
-ghost use Rattle.wx_script.specs.View.{act_view, command_view, line_view};
+ghost use Rattle.wx_script.specs.View.{target_and_rest_view, act_view, command_view, document_view, context_view, line_view};
 
 use crate::word::{
-    count, is_comment, is_given, is_word, name, name_and_rest, path, port_name, split_word,
+    count, frame_id, is_comment, is_given, is_word, name, name_and_rest, path, split_word, tab_id,
+    word_text,
 };
 use wx_context::Listens;
+use wx_id::{FrameId, TabId};
+
+/// Whom a command is for, with the name of an extension.
+#[derive(Clone, Copy)]
+pub(crate) enum NamedTarget<'a> {
+    Own,
+    Extension(&'a str),
+    Tab(TabId, Option<FrameId>),
+}
+
+/// What an `await` waits for.
+#[derive(Clone, Copy)]
+pub(crate) enum Awaited {
+    Connect,
+    Message,
+    Request,
+    Reply,
+    Close,
+}
 
 /// What a command asks for, with the name of its variable.
 #[derive(Clone, Copy)]
 pub(crate) enum NamedAct<'a> {
     Listen(Listens),
-    Connect(&'a str, &'a str),
+    /// With the port name.
+    Connect(&'a str, NamedTarget<'a>, &'a str),
     Post(&'a str, &'a [u8]),
     Disconnect(&'a str),
+    Send(&'a str, NamedTarget<'a>, &'a [u8]),
+    Reply(&'a str, &'a [u8]),
+    ReplySame(&'a str),
+    Decline(&'a str),
     Take,
-    AwaitConnect(&'a str),
-    AwaitMessage(&'a str),
-    AwaitClose(&'a str),
+    Await(Awaited, &'a str),
     Echo(u32),
 }
 
@@ -30,57 +53,245 @@ pub(crate) enum NamedCommand<'a> {
     Repeat(u32, NamedAct<'a>),
 }
 
+/// The document in a frame of a tab, by its address.
+#[derive(Clone, Copy)]
+pub(crate) struct Document<'a> {
+    pub(crate) tab: TabId,
+    pub(crate) frame: FrameId,
+    pub(crate) url: &'a str,
+}
+
+/// The context of an endpoint, with the name of its extension.
+#[derive(Clone, Copy)]
+pub(crate) enum NamedContext<'a> {
+    /// With its path.
+    Page(&'a str, &'a str),
+    Content(&'a str, Document<'a>),
+    Web(Document<'a>),
+}
+
 /// A line of a scene behind its head line.
 #[derive(Clone, Copy)]
 pub(crate) enum Line<'a> {
     /// An empty line, or one that begins with `#`.
     Comment(&'a [u8]),
-    Extension(&'a str, &'a [u8]),
-    Page(&'a str, &'a str, &'a str),
+    /// With its id, and the file of its manifest.
+    Extension(&'a str, &'a [u8], Option<&'a str>),
+    /// The file of a host's manifest.
+    Host(&'a str),
+    Endpoint(&'a str, NamedContext<'a>),
     Script(NamedCommand<'a>),
+}
+
+/// The file that stands behind an id, if one does.
+#[tactic(auto, unfolding(crate::specs::Line::file_at))]
+fn file_of(text: Option<&[u8]>) -> Option<Option<&str>>
+    ensures { option_map option_copied result ≡ forms.file_at (option_copied text.entry) }
+{
+    match text {
+        Some(text) => Some(Some(word_text(text)?)),
+        None => Some(None),
+    }
 }
 
 #[tactic(auto, unfolding(crate::specs::Line::extension_at))]
 fn extension_of(text: &[u8]) -> Option<Line<'_>>
     ensures { option_map line_view result ≡ forms.extension_at text.now }
 {
-    let (name, id) = name_and_rest(text)?;
+    let (name, rest) = name_and_rest(text)?;
+    let (id, file) = split_word(rest);
+    let file = file_of(file)?;
     if is_word(id) {
-        Some(Line::Extension(name, id))
+        Some(Line::Extension(name, id, file))
     } else {
         None
     }
 }
 
-#[tactic(auto, unfolding(crate::specs::Line::page_at))]
-fn page_of(text: &[u8]) -> Option<Line<'_>>
-    ensures { option_map line_view result ≡ forms.page_at text.now }
+#[tactic(auto, unfolding(crate::specs::Line::host_at))]
+fn host_of(text: &[u8]) -> Option<Line<'_>>
+    ensures { option_map line_view result ≡ forms.host_at text.now }
 {
-    let (name, rest) = name_and_rest(text)?;
-    let (ext, word) = name_and_rest(rest)?;
-    let path = path(word)?;
-    Some(Line::Page(name, ext, path))
+    Some(Line::Host(word_text(text)?))
 }
 
-fn listens_to(connect: bool) -> Listens
-    ensures { result ≡ forms.listens_to connect }
+#[tactic(auto, unfolding(crate::specs::Line::page_at))]
+fn page_of(text: &[u8]) -> Option<NamedContext<'_>>
+    ensures { option_map context_view result ≡ forms.page_at text.now }
 {
-    Listens {
-        connect,
-        message: false,
-        external_connect: false,
-        external_message: false,
+    let (ext, word) = name_and_rest(text)?;
+    let path = path(word)?;
+    Some(NamedContext::Page(ext, path))
+}
+
+#[tactic(auto, unfolding(crate::specs::Line::document_at))]
+fn document_of(text: &[u8]) -> Option<Document<'_>>
+    ensures { option_map document_view result ≡ forms.document_at text.now }
+{
+    let (word, rest) = split_word(text);
+    let tab = tab_id(word)?;
+    let (word, url) = split_word(rest?);
+    let frame = frame_id(word)?;
+    let url = word_text(url?)?;
+    Some(Document { tab, frame, url })
+}
+
+#[tactic(auto, unfolding(crate::specs::Line::content_at))]
+fn content_of(text: &[u8]) -> Option<NamedContext<'_>>
+    ensures { option_map context_view result ≡ forms.content_at text.now }
+{
+    let (ext, rest) = name_and_rest(text)?;
+    let document = document_of(rest)?;
+    Some(NamedContext::Content(ext, document))
+}
+
+#[tactic(auto, unfolding(crate::specs::Line::web_at))]
+fn web_of(text: &[u8]) -> Option<NamedContext<'_>>
+    ensures { option_map context_view result ≡ forms.web_at text.now }
+{
+    Some(NamedContext::Web(document_of(text)?))
+}
+
+/// A context, by its word and what stands behind the endpoint's name.
+#[tactic(auto, unfolding(crate::specs::Line::context_with))]
+fn context_of<'a>(word: &[u8], rest: &'a [u8]) -> Option<NamedContext<'a>>
+    ensures { option_map context_view result ≡ forms.context_with word.now rest.now }
+{
+    if word == b"page".as_slice() {
+        page_of(rest)
+    } else if word == b"content".as_slice() {
+        content_of(rest)
+    } else if word == b"web".as_slice() {
+        web_of(rest)
+    } else {
+        None
     }
 }
+
+#[tactic(auto, unfolding(crate::specs::Line::endpoint_with))]
+fn endpoint_of<'a>(word: &[u8], text: &'a [u8]) -> Option<Line<'a>>
+    ensures { option_map line_view result ≡ forms.endpoint_with word.now text.now }
+{
+    let (name, rest) = name_and_rest(text)?;
+    let context = context_of(word, rest)?;
+    Some(Line::Endpoint(name, context))
+}
+
+/// Whether the flag is the first word of what is left, and what is left behind it.
+#[tactic(auto, unfolding(crate::specs::Line::flag_at))]
+fn flag<'a>(flag: &[u8], left: Option<&'a [u8]>) -> (bool, Option<&'a [u8]>)
+    ensures { (result.0, option_copied result.1) ≡ forms.flag_at flag.now (option_copied left.entry) }
+{
+    let Some(text) = left else {
+        return (false, None);
+    };
+    let (word, rest) = split_word(text);
+    if word == flag {
+        (true, rest)
+    } else {
+        (false, left)
+    }
+}
+
+/// What the flags in front listen to, and what is left behind them.
+#[tactic(auto, unfolding(crate::specs::Line::flags_at))]
+fn flags(text: &[u8]) -> (Listens, Option<&[u8]>)
+    ensures { (result.0, option_copied result.1) ≡ forms.flags_at text.now }
+{
+    let (connect, left) = flag(b"connect", Some(text));
+    let (message, left) = flag(b"message", left);
+    let (external_connect, left) = flag(b"external-connect", left);
+    let (external_message, left) = flag(b"external-message", left);
+    let listens = Listens {
+        connect,
+        message,
+        external_connect,
+        external_message,
+    };
+    (listens, left)
+}
+
+/// What `none` listens to.
+const NOTHING: Listens = Listens {
+    connect: false,
+    message: false,
+    external_connect: false,
+    external_message: false,
+};
 
 #[tactic(auto, unfolding(crate::specs::Line::listen_at))]
 fn listen_of(text: &[u8]) -> Option<NamedAct<'_>>
     ensures { option_map act_view result ≡ forms.listen_at text.now }
 {
     if text == b"none".as_slice() {
-        Some(NamedAct::Listen(listens_to(false)))
-    } else if text == b"connect".as_slice() {
-        Some(NamedAct::Listen(listens_to(true)))
+        return Some(NamedAct::Listen(NOTHING));
+    }
+    match flags(text) {
+        (listens, None) => Some(NamedAct::Listen(listens)),
+        (_, Some(_)) => None,
+    }
+}
+
+/// An extension as a target, and what stands behind the next space.
+#[tactic(auto, unfolding(crate::specs::Line::extension_target_at))]
+fn extension_target_of(text: &[u8]) -> Option<(NamedTarget<'_>, Option<&[u8]>)>
+    ensures { option_map target_and_rest_view result ≡ forms.extension_target_at text.now }
+{
+    let (word, rest) = split_word(text);
+    let name = name(word)?;
+    Some((NamedTarget::Extension(name), rest))
+}
+
+/// A frame of a tab, by what stands behind `frame`.
+#[tactic(auto, unfolding(crate::specs::Line::frame_at))]
+fn frame_of(tab: TabId, text: &[u8]) -> Option<(NamedTarget<'_>, Option<&[u8]>)>
+    ensures { option_map target_and_rest_view result ≡ forms.frame_at tab text.now }
+{
+    let (word, rest) = split_word(text);
+    let frame = frame_id(word)?;
+    Some((NamedTarget::Tab(tab, Some(frame)), rest))
+}
+
+/// A tab or a frame of it, by what stands behind the tab.
+#[tactic(auto, unfolding(crate::specs::Line::tab_with))]
+fn tab_or_frame<'a>(
+    tab: TabId,
+    behind: Option<&'a [u8]>,
+) -> Option<(NamedTarget<'a>, Option<&'a [u8]>)>
+    ensures { option_map target_and_rest_view result ≡ forms.tab_with tab (option_copied behind.entry) }
+{
+    let Some(text) = behind else {
+        return Some((NamedTarget::Tab(tab, None), None));
+    };
+    let (word, rest) = split_word(text);
+    if word == b"frame".as_slice() {
+        frame_of(tab, rest?)
+    } else {
+        Some((NamedTarget::Tab(tab, None), behind))
+    }
+}
+
+#[tactic(auto, unfolding(crate::specs::Line::tab_at))]
+fn tab_of(text: &[u8]) -> Option<(NamedTarget<'_>, Option<&[u8]>)>
+    ensures { option_map target_and_rest_view result ≡ forms.tab_at text.now }
+{
+    let (word, rest) = split_word(text);
+    let tab = tab_id(word)?;
+    tab_or_frame(tab, rest)
+}
+
+/// A target, and what stands behind the next space.
+#[tactic(auto, unfolding(crate::specs::Line::target_at))]
+fn target_of(text: &[u8]) -> Option<(NamedTarget<'_>, Option<&[u8]>)>
+    ensures { option_map target_and_rest_view result ≡ forms.target_at text.now }
+{
+    let (word, rest) = split_word(text);
+    if word == b"own".as_slice() {
+        Some((NamedTarget::Own, rest))
+    } else if word == b"ext".as_slice() {
+        extension_target_of(rest?)
+    } else if word == b"tab".as_slice() {
+        tab_of(rest?)
     } else {
         None
     }
@@ -88,22 +299,23 @@ fn listen_of(text: &[u8]) -> Option<NamedAct<'_>>
 
 /// The port name behind a target, empty where none is given.
 #[tactic(auto, unfolding(crate::specs::Line::port_name_at))]
-fn port_name_of(text: &[u8]) -> Option<&str>
-    ensures { option_map (λ name. name.now) result ≡ forms.port_name_at text.now }
+fn port_name_of(text: Option<&[u8]>) -> Option<&str>
+    ensures { option_copied result ≡ forms.port_name_at (option_copied text.entry) }
 {
-    if text == b"own".as_slice() {
-        return Some("");
+    match text {
+        Some(text) => word_text(text.strip_prefix(b"name ")?),
+        None => Some(""),
     }
-    port_name(text.strip_prefix(b"own name ")?)
 }
 
 #[tactic(auto, unfolding(crate::specs::Line::connect_at))]
 fn connect_of(text: &[u8]) -> Option<NamedAct<'_>>
     ensures { option_map act_view result ≡ forms.connect_at text.now }
 {
-    let (var, target) = name_and_rest(text)?;
-    let name = port_name_of(target)?;
-    Some(NamedAct::Connect(var, name))
+    let (var, rest) = name_and_rest(text)?;
+    let (target, rest) = target_of(rest)?;
+    let name = port_name_of(rest)?;
+    Some(NamedAct::Connect(var, target, name))
 }
 
 #[tactic(auto, unfolding(crate::specs::Line::post_at))]
@@ -125,30 +337,6 @@ fn disconnect_of(text: &[u8]) -> Option<NamedAct<'_>>
     Some(NamedAct::Disconnect(name(text)?))
 }
 
-#[tactic(auto, unfolding(crate::specs::Line::await_at, crate::specs::Line::await_with))]
-fn await_of(text: &[u8]) -> Option<NamedAct<'_>>
-    ensures { option_map act_view result ≡ forms.await_at text.now }
-{
-    let (event, rest) = split_word(text);
-    let rest = rest?;
-    if event == b"connect".as_slice() {
-        Some(NamedAct::AwaitConnect(name(rest)?))
-    } else if event == b"message".as_slice() {
-        Some(NamedAct::AwaitMessage(name(rest)?))
-    } else if event == b"close".as_slice() {
-        Some(NamedAct::AwaitClose(name(rest)?))
-    } else {
-        None
-    }
-}
-
-#[tactic(auto, unfolding(crate::specs::Line::echo_at))]
-fn echo_of(text: &[u8]) -> Option<NamedAct<'_>>
-    ensures { option_map act_view result ≡ forms.echo_at text.now }
-{
-    Some(NamedAct::Echo(count(text)?))
-}
-
 /// An act on a channel, by its first word and what stands behind that.
 #[tactic(auto, unfolding(crate::specs::Line::channel_act_with))]
 fn channel_act_of<'a>(word: &[u8], rest: &'a [u8]) -> Option<NamedAct<'a>>
@@ -163,6 +351,96 @@ fn channel_act_of<'a>(word: &[u8], rest: &'a [u8]) -> Option<NamedAct<'a>>
     } else {
         None
     }
+}
+
+#[tactic(auto, unfolding(crate::specs::Line::send_at))]
+fn send_of(text: &[u8]) -> Option<NamedAct<'_>>
+    ensures { option_map act_view result ≡ forms.send_at text.now }
+{
+    let (var, rest) = name_and_rest(text)?;
+    let (target, rest) = target_of(rest)?;
+    let json = rest?;
+    if is_given(json) {
+        Some(NamedAct::Send(var, target, json))
+    } else {
+        None
+    }
+}
+
+#[tactic(auto, unfolding(crate::specs::Line::reply_at, crate::specs::Line::reply_with))]
+fn reply_of(text: &[u8]) -> Option<NamedAct<'_>>
+    ensures { option_map act_view result ≡ forms.reply_at text.now }
+{
+    let (word, rest) = split_word(text);
+    let rest = rest?;
+    if word == b"same".as_slice() {
+        return Some(NamedAct::ReplySame(name(rest)?));
+    }
+    let var = name(word)?;
+    if is_given(rest) {
+        Some(NamedAct::Reply(var, rest))
+    } else {
+        None
+    }
+}
+
+#[tactic(auto, unfolding(crate::specs::Line::decline_at))]
+fn decline_of(text: &[u8]) -> Option<NamedAct<'_>>
+    ensures { option_map act_view result ≡ forms.decline_at text.now }
+{
+    Some(NamedAct::Decline(name(text)?))
+}
+
+/// An act on a request or a channel, by its first word and what stands behind that.
+#[tactic(auto, unfolding(crate::specs::Line::request_act_with))]
+fn request_act_of<'a>(word: &[u8], rest: &'a [u8]) -> Option<NamedAct<'a>>
+    ensures { option_map act_view result ≡ forms.request_act_with word.now rest.now }
+{
+    if word == b"send".as_slice() {
+        send_of(rest)
+    } else if word == b"reply".as_slice() {
+        reply_of(rest)
+    } else if word == b"decline".as_slice() {
+        decline_of(rest)
+    } else {
+        channel_act_of(word, rest)
+    }
+}
+
+#[tactic(auto, unfolding(crate::specs::Line::awaited_at))]
+fn event_of(word: &[u8]) -> Option<Awaited>
+    ensures { result ≡ forms.awaited_at word.now }
+{
+    if word == b"connect".as_slice() {
+        Some(Awaited::Connect)
+    } else if word == b"message".as_slice() {
+        Some(Awaited::Message)
+    } else if word == b"request".as_slice() {
+        Some(Awaited::Request)
+    } else if word == b"reply".as_slice() {
+        Some(Awaited::Reply)
+    } else if word == b"close".as_slice() {
+        Some(Awaited::Close)
+    } else {
+        None
+    }
+}
+
+#[tactic(auto, unfolding(crate::specs::Line::await_at))]
+fn await_of(text: &[u8]) -> Option<NamedAct<'_>>
+    ensures { option_map act_view result ≡ forms.await_at text.now }
+{
+    let (word, rest) = split_word(text);
+    let var = rest?;
+    let event = event_of(word)?;
+    Some(NamedAct::Await(event, name(var)?))
+}
+
+#[tactic(auto, unfolding(crate::specs::Line::echo_at))]
+fn echo_of(text: &[u8]) -> Option<NamedAct<'_>>
+    ensures { option_map act_view result ≡ forms.echo_at text.now }
+{
+    Some(NamedAct::Echo(count(text)?))
 }
 
 #[tactic(auto, unfolding(crate::specs::Line::act_at, crate::specs::Line::act_with))]
@@ -181,7 +459,7 @@ fn act_of(text: &[u8]) -> Option<NamedAct<'_>>
     } else if word == b"echo".as_slice() {
         echo_of(rest)
     } else {
-        channel_act_of(word, rest)
+        request_act_of(word, rest)
     }
 }
 
@@ -213,10 +491,10 @@ fn declaration_of(text: &[u8]) -> Option<Line<'_>>
     let rest = rest?;
     if word == b"extension".as_slice() {
         extension_of(rest)
-    } else if word == b"page".as_slice() {
-        page_of(rest)
+    } else if word == b"host".as_slice() {
+        host_of(rest)
     } else {
-        None
+        endpoint_of(word, rest)
     }
 }
 

@@ -1,5 +1,6 @@
 ghost use Rattle.std.specs.Prelude.{◌≡◌, ◌<◌, [], length, IfSome, OnOk, OnErr};
 ghost use Rattle.wx_script.specs.Names.{place_in, is_among, binding};
+ghost use Rattle.wx_script.specs.Draft.{no_variables};
 
 use indexmap::IndexSet;
 use std::alloc::{AllocError, Global};
@@ -67,5 +68,38 @@ impl Names {
         ensures { self.new ≡ [] }
     {
         self.names.clear();
+    }
+}
+
+/// The names of the variables that a script binds, each sort in the order of first binding.
+#[derive(Drop)]
+pub(crate) struct VariableNames {
+    /// Bound by `connect` and `await connect`.
+    pub(crate) channels: Names,
+    /// Bound by `send`.
+    pub(crate) asked: Names,
+    /// Bound by `await request`.
+    pub(crate) received: Names,
+}
+
+impl VariableNames {
+    /// No variables.
+    pub(crate) fn new(alloc: Global) -> VariableNames
+        ensures { result ≡ no_variables }
+    {
+        VariableNames {
+            channels: Names::new(alloc),
+            asked: Names::new(alloc),
+            received: Names::new(alloc),
+        }
+    }
+
+    /// Takes all variables out.
+    pub(crate) fn clear(&mut self)
+        ensures { self.new ≡ no_variables }
+    {
+        self.channels.clear();
+        self.asked.clear();
+        self.received.clear();
     }
 }

@@ -1,7 +1,7 @@
 ghost use Rattle.std.specs.Prelude.{◌≡◌, ◌<◌, ◌^◌, length, OnOk, IfErr};
-ghost use Rattle.wx_script.specs.Adding.{so_far, IsIndexed, Makes};
+ghost use Rattle.wx_script.specs.Adding.{so_far, IsIndexed, MakesDraft};
 ghost use Rattle.wx_script.specs.Draft.{fresh};
-ghost use Rattle.wx_script.specs.Reading.{first_line, behind_line, Reads, ReadsIt, NamesALine};
+ghost use Rattle.wx_script.specs.Reading.{first_line, behind_line, ReadsDraft, ReadsResult, NamesALine};
 ghost use Rattle.wx_script.specs.declared.scene.SceneReadFault.TheVariants as fault;
 ghost use Rattle.wx_script.specs.Scene.{lines_of, text_added, lines_added, fault_at, scene_from, scene_of};
 
@@ -28,7 +28,7 @@ fn split_line(text: &[u8]) -> (&[u8], &[u8])
 
 fn add_text(draft: &mut Draft, alloc: Global, text: &[u8]) -> Result<(), LineFault>
     requires { IsIndexed draft.old }
-    ensures made { Makes (so_far draft.new) result (text_added (so_far draft.old) text.now) }
+    ensures made { MakesDraft (so_far draft.new) result (text_added (so_far draft.old) text.now) }
     ensures indexed { OnOk result (IsIndexed draft.new) }
 {
     match line_of(text) {
@@ -48,7 +48,7 @@ fn bad(line: u64, kind: SceneKind) -> SceneReadFault
 fn add_lines(draft: &mut Draft, alloc: Global, text: &[u8]) -> Result<(), SceneReadFault>
     requires numbers { length text.now < 2 ^ 63 }
     requires indexed { IsIndexed draft.old }
-    ensures { Reads (so_far draft.new) result (lines_added 2 (so_far draft.old) (lines_of text.now)) }
+    ensures { ReadsDraft (so_far draft.new) result (lines_added 2 (so_far draft.old) (lines_of text.now)) }
 {
     let mut left = text;
     let mut number = 2u64;
@@ -68,7 +68,7 @@ fn add_lines(draft: &mut Draft, alloc: Global, text: &[u8]) -> Result<(), SceneR
 /// The scene of the lines behind the head line.
 fn read_body(alloc: Global, text: &[u8]) -> Result<Scene, SceneReadFault>
     requires { length text.now < 2 ^ 63 }
-    ensures { ReadsIt result (scene_from (lines_added 2 fresh (lines_of text.now))) }
+    ensures { ReadsResult result (scene_from (lines_added 2 fresh (lines_of text.now))) }
 {
     let mut draft = Draft::new(alloc);
     match add_lines(&mut draft, alloc, text) {
@@ -88,10 +88,10 @@ fn read_body(alloc: Global, text: &[u8]) -> Result<Scene, SceneReadFault>
 
 impl Scene {
     /// Reads the scene that bytes spell, or names the first faulty line. On one line the tests are made in the
-    /// order `Head`, `Form`, `Order`, `Id`, `Repeated`, `Unknown`, `Unbound`, `Json`, `Many`.
+    /// order `Head`, `Form`, `Order`, `Id`, `Repeated`, `Unknown`, `Url`, `Unbound`, `Json`, `Many`.
     #[tactic(auto, using(crate::proofs::ReadingLemmas::lines, crate::proofs::FaultLemmas::names_a_line))]
     pub fn read(alloc: Global, bytes: &[u8]) -> Result<Scene, SceneReadFault>
-        ensures exact { ReadsIt result (scene_of bytes.now) }
+        ensures exact { ReadsResult result (scene_of bytes.now) }
         // `Missing` and `Large` are for the caller, who opens the file.
         ensures fault { IfErr result NamesALine }
     {

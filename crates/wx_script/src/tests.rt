@@ -1,7 +1,8 @@
-use crate::{Act, Command, Scene, SceneFault, SceneKind, SceneReadFault};
+use crate::{Act, Command, Scene, SceneFile, SceneReadFault, file_name};
 use std::alloc::{AllocError, Global};
 use std::test::Fail;
 use wx_context::Context;
+use wx_id::Utf8Text;
 
 /// How a scene with these lines behind its head line is read.
 fn read_behind_head(alloc: Global, lines: &str) -> Result<Scene, SceneReadFault> {
@@ -12,13 +13,6 @@ fn read_behind_head(alloc: Global, lines: &str) -> Result<Scene, SceneReadFault>
     match bytes.extend_from_slice(lines.as_bytes()) {
         Ok(()) => Scene::read(alloc, &bytes),
         Err(_) => Err(SceneReadFault::NoMemory),
-    }
-}
-
-pub(crate) fn is_fault(read: Result<Scene, SceneReadFault>, line: u64, kind: SceneKind) -> bool {
-    match read {
-        Ok(_) => false,
-        Err(fault) => fault == SceneReadFault::Bad(SceneFault { line, kind }),
     }
 }
 
@@ -101,6 +95,34 @@ fn scenes_that_are_read(rt: HostRuntime) -> Result<(), Fail> {
             2,
         ),
         (PAGE, "  repeat 2 await connect ch\n  disconnect ch\n", 1, 2),
+        (PAGE, "host a/e.json\n  take\nhost e\n", 1, 1),
+        (PAGE, "content c x 7 0 https://a.b/f\n  take\n", 2, 1),
+        (PAGE, "web w 0 4294967295 http://a\n  take\n", 2, 1),
+        (PAGE, "  listen none\n  listen external-message\n", 1, 2),
+        (
+            PAGE,
+            "  listen connect message external-connect external-message\n",
+            1,
+            1,
+        ),
+        (
+            PAGE,
+            "  connect a ext x\n  connect a tab 7 name n\n  connect a tab 7 frame 0\n",
+            1,
+            3,
+        ),
+        (
+            PAGE,
+            "  send r own 1\n  await reply r\n  send r tab 7 frame 1 2\n",
+            1,
+            3,
+        ),
+        (
+            PAGE,
+            "  await request r\n  reply r  1\n  reply same r\n  decline r\n",
+            1,
+            4,
+        ),
     ] {
         let text = format!(in rt.alloc(); "{above}{below}")?;
         let read = Scene::read(rt.alloc(), text.as_bytes());
@@ -114,6 +136,7 @@ fn is_page(context: &Context, wanted: &str) -> bool {
         Context::Page { ext, path } => {
             ext.text() == "aaaaaaaaaaaaaaaaaaaaaaaaaaaaaaaa" && path.text() == wanted
         }
+        _ => false,
     }
 }
 
@@ -179,6 +202,52 @@ fn awaits_echo_and_repeat(rt: HostRuntime) {
             _ => assert!(rt; false),
         },
         _ => assert!(rt; false),
+    }
+}
+
+/// Files and their lines, the pages' kin, and variables of each sort.
+#[test]
+fn files_documents_and_sorts_of_variables(rt: HostRuntime) {
+    let lines =
+        "host a/e.json\nextension x aaaaaaaaaaaaaaaaaaaaaaaaaaaaaaaa x.json\nextension y bbbbbbbbbbbbbbbbbbbbbbbbbbbbbbbb\nhost b/\nweb w 7 0 HTTPS://A.b\n  connect v ext x\n  send v own 1\n  await request v\n";
+    let Ok(scene) = read_behind_head(rt.alloc(), lines) else {
+        assert!(rt; false);
+        return;
+    };
+    let files = [
+        SceneFile::Host(0),
+        SceneFile::Extension(0),
+        SceneFile::Host(1),
+    ];
+    assert!(rt; scene.files() == files.as_slice());
+    match (scene.extensions(), scene.hosts(), scene.endpoints()) {
+        ([x, y], [e, b], [w]) => {
+            assert!(rt; is_text(&x.file, "x.json") && y.file.is_none());
+            assert_eq!(rt;
+                (file_name(e.as_str()), file_name(b.as_str())),
+                ("e.json", "")
+            );
+            match &w.context {
+                Context::Web { url, .. } => assert_eq!(rt; url.url().as_str(), "https://a.b/"),
+                _ => assert!(rt; false),
+            }
+            match w.script.commands() {
+                [
+                    Command::Plain(Act::Connect(v, _, _)),
+                    Command::Plain(Act::Send(r, _, _)),
+                    Command::Plain(Act::AwaitRequest(s)),
+                ] => assert!(rt; v.0 == 0 && r.0 == 0 && s.0 == 0),
+                _ => assert!(rt; false),
+            }
+        }
+        _ => assert!(rt; false),
+    }
+}
+
+fn is_text(text: &Option<Utf8Text>, wanted: &str) -> bool {
+    match text {
+        Some(text) => text.as_str() == wanted,
+        None => false,
     }
 }
 

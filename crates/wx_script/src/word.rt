@@ -6,6 +6,7 @@ ghost use Rattle.wx_script.specs.Words as words;
 ghost use Rattle.wx_script.specs.Line as forms;
 
 use wx_context::{are_printable, is_page_path};
+use wx_id::{FrameId, TabId};
 
 /// The bytes up to the first space, and what stands behind that space.
 pub(crate) fn split_word(text: &[u8]) -> (&[u8], Option<&[u8]>)
@@ -80,18 +81,29 @@ pub(crate) fn is_word(text: &[u8]) -> bool
     !text.is_empty() && are_printable(text)
 }
 
-/// The port name that a word is.
+/// The text of a word: a file, a URL or a port name.
 #[tactic(auto, using(crate::proofs::WordLemmas::words_are_utf8))]
-pub(crate) fn port_name(word: &[u8]) -> Option<&str>
-    ensures { option_map (λ name. name.now) result ≡ forms.where_so (words.is_word word.now) word.now }
+pub(crate) fn word_text(word: &[u8]) -> Option<&str>
+    ensures { option_map (λ text. text.now) result ≡ forms.where_so (words.is_word word.now) word.now }
 {
     if !is_word(word) {
         return None;
     }
     match str::from_utf8(word) {
-        Ok(name) => Some(name),
+        Ok(text) => Some(text),
         Err(_) => unreachable!(),
     }
+}
+
+/// The part of a file's name behind the last `/`, which is the whole where there is none.
+pub fn file_name(file: &str) -> &str
+    ensures { result.now ≡ words.file_name file.now }
+{
+    let mut left = file;
+    while let Some((_, rest)) = left.split_once('/') {
+        left = rest;
+    }
+    left
 }
 
 /// The path that a word is.
@@ -135,6 +147,22 @@ fn number(word: &[u8]) -> Option<u32>
         Ok(digits) => digits.parse().ok(),
         Err(_) => unreachable!(),
     }
+}
+
+/// The id of a tab that a word is.
+#[tactic(auto, unfolding(crate::specs::Line::tab_id_at))]
+pub(crate) fn tab_id(word: &[u8]) -> Option<TabId>
+    ensures { result ≡ forms.tab_id_at word.now }
+{
+    Some(TabId(number(word)?))
+}
+
+/// The id of a frame that a word is.
+#[tactic(auto, unfolding(crate::specs::Line::frame_id_at))]
+pub(crate) fn frame_id(word: &[u8]) -> Option<FrameId>
+    ensures { result ≡ forms.frame_id_at word.now }
+{
+    Some(FrameId(number(word)?))
 }
 
 /// The number from 1 to 1,000,000 that a word is.

@@ -1,0 +1,86 @@
+-- How the tables of channels and requests tell a journal.
+use Rattle.std.specs.Prelude.{◌≡◌, ℕ, length, List, [], Bool, true, false, not, cond, reverse, filter, slice_get, IfSome, ◌==◌}
+use Rattle.std.specs.Option.{option_map}
+use Rattle.wx_external.specs.World.{WorldLists}
+use Rattle.wx_machine.specs.declared.entries.Call.{Call}
+use Rattle.wx_machine.specs.declared.entries.Call.TheVariants.{Enter, Listen, Connect, Post, Send, Take}
+use Rattle.wx_machine.specs.declared.entries.Answer.{Answer}
+use Rattle.wx_machine.specs.declared.entries.Answer.TheVariants.{Channel as OnChannel, Request as OnRequest, Done, First, Late as TooLate, NotYours}
+use Rattle.wx_machine.specs.declared.entries.Entry.{Entry}
+use Rattle.wx_machine.specs.Contexts.{is_live}
+use Rattle.wx_machine.specs.Channels.{Ends, channel, is_closed}
+use Rattle.wx_machine.specs.Requests.{Parties, request, is_settled, is_open_to}
+use Rattle.wx_machine.specs.Answers.{IsLegal}
+use Rattle.wx_port.specs.Port.{Port}
+use Rattle.wx_one_shot.specs.declared.requests.Standing.{Standing}
+use Rattle.wx_one_shot.specs.declared.requests.Standing.TheVariants.{Open, Late, Stranger}
+use Rattle.wx_one_shot.specs.Requests.{Request}
+
+-- channel k, which has these ends, as the journal tells it
+abbrev pub port_said : List Entry → ℕ → Ends → Port
+port_said past k ends = record {
+  opener = ends.opener;
+  receivers = ends.receivers;
+  live = cond (is_closed past k) [] (filter (is_live past) ends.receivers);
+  is_open = not (is_closed past k);
+}
+
+-- request r, which has these parties, as the journal tells it
+abbrev pub request_said : List Entry → ℕ → Parties → Request
+request_said past r parties = record {
+  asker = parties.asker;
+  receivers = parties.receivers;
+  still_open = cond (is_settled past r) [] (filter (is_open_to past r) parties.receivers);
+  is_settled = is_settled past r;
+}
+
+-- the channels of the journal, each at the place of its number
+abbrev pub HasChannels : List Entry → List Port → Type 0
+HasChannels past ports = (k : ℕ) → slice_get ports k ≡ option_map (port_said past k) (channel past k)
+
+-- the requests of the journal, each at the place of its number
+abbrev pub HasRequests : List Entry → List Request → Type 0
+HasRequests past rows = (r : ℕ) → slice_get rows r ≡ option_map (request_said past r) (request past r)
+
+-- each request is settled exactly where nobody may still reply
+abbrev pub AreAwaited : List Request → Type 0
+AreAwaited rows = (r : ℕ) → IfSome (slice_get rows r) (λ row. row.is_settled ≡ (length row.still_open == 0))
+
+-- the journal is legal, and the tables tell it
+pub record IsKept (world : WorldLists) (journal : List Entry) (ports : List Port) (rows : List Request) : Type 0 where
+  pub legal : IsLegal world journal
+  pub channels : HasChannels (reverse journal) ports
+  pub requests : HasRequests (reverse journal) rows
+  pub awaited : AreAwaited rows
+
+abbrev pub is_channel : Answer → Bool
+is_channel (OnChannel k) = true
+is_channel _ = false
+
+abbrev pub is_request : Answer → Bool
+is_request (OnRequest r) = true
+is_request _ = false
+
+abbrev pub is_done : Answer → Bool
+is_done Done = true
+is_done _ = false
+
+abbrev pub is_first : Answer → Bool
+is_first First = true
+is_first _ = false
+
+-- a call that changes no table, with that answer
+abbrev pub is_quiet : Call → Answer → Bool
+is_quiet (Enter x) answer = true
+is_quiet (Listen l) answer = true
+is_quiet (Connect target name) answer = not (is_channel answer)
+is_quiet (Post k text) answer = true
+is_quiet (Send target text) answer = not (is_request answer)
+is_quiet Take answer = true
+is_quiet _ answer = false
+
+-- the answer on a request, by what the caller is to it
+abbrev pub on_standing : Standing → Answer → Answer
+on_standing Stranger answer = NotYours
+on_standing Late answer = TooLate
+on_standing Open answer = answer

@@ -1,0 +1,159 @@
+//! What an answered call changes in the tables of channels and requests.
+ghost use Rattle.std.specs.Prelude.{◌≡◌, ℕ, ◌<◌, ◌≤◌, ◌+◌, [], ◌∷◌, ◌++◌, ◌&&◌, ◌==◌, cond, false, filter, IfOk, IsTrue, OnErr, OnOk, option_to_list, reverse, slice_get};
+ghost use Rattle.std.specs.Option.{option_map};
+ghost use Rattle.wx_machine.specs.Contexts.{enters, is_receiver, numbers_of, receivers_of};
+ghost use Rattle.wx_port.specs.Port.{are_apart, is_among, is_open_port, closed, opened};
+ghost use Rattle.wx_one_shot.specs.Requests.{are_distinct, asked, is_unsettled_at, settled, standing_at, without};
+ghost use Rattle.wx_one_shot.specs.declared.requests.Standing.TheVariants as standing;
+ghost use Rattle.wx_broker.specs.Tables.{is_done, is_first};
+
+use crate::answers;
+use std::alloc::Global;
+use wx_context::Target;
+use wx_id::{ChannelNo, ContextNo, NoMemory, RequestNo};
+use wx_journal::Journal;
+use wx_machine::{Answer, Call, Entry, Sort, Who};
+use wx_one_shot::Requests;
+use wx_port::Ports;
+use wx_walks::contexts;
+
+/// The number that the entry gives to a context.
+fn number_of(e: &Entry) -> Option<ContextNo>
+    ensures { option_to_list result ≡ numbers_of (enters e.now) }
+{
+    match (&e.who, &e.call, &e.answer) {
+        (Who::Context(_), Call::Enter(_), Answer::Entered(c)) => Some(*c),
+        _ => None,
+    }
+}
+
+/// Adds the context that the entry brings in, where it is a receiver.
+fn add_receiver(
+    found: &mut Vec<ContextNo>,
+    entries: &[Entry],
+    c: ContextNo,
+    target: &Target,
+    sort: Sort,
+    e: &Entry,
+) -> Result<(), NoMemory>
+    ensures { OnOk result (found.new.items ≡ found.old.items ++ filter (is_receiver (reverse entries.now) c target.now sort) (numbers_of (enters e.now))) }
+{
+    match number_of(e) {
+        Some(d) => {
+            if !contexts::is_receiver(entries, c, target, sort, d) {
+                return Ok(());
+            }
+            match found.push(d) {
+                Ok(()) => Ok(()),
+                Err(_) => Err(NoMemory),
+            }
+        }
+        None => Ok(()),
+    }
+}
+
+/// The receivers of what context c sends to the target, in rising number.
+#[tactic(auto, using(wx_walks::proofs::Past::past_at_read, crate::proofs::LivesLater::receivers_more))]
+fn receivers(
+    alloc: Global,
+    entries: &[Entry],
+    c: ContextNo,
+    target: &Target,
+    sort: Sort,
+) -> Result<Vec<ContextNo>, NoMemory>
+    ensures { IfOk result (λ found. found.items ≡ receivers_of (reverse entries.now) c target.now sort) }
+{
+    let mut found = Vec::new(alloc);
+    for e in entries {
+        if add_receiver(&mut found, entries, c, target, sort, e).is_err() {
+            return Err(NoMemory);
+        }
+    }
+    Ok(found)
+}
+
+/// Opens a channel from context c to the receivers of its target.
+pub fn open(
+    ports: &mut Ports,
+    alloc: Global,
+    entries: &[Entry],
+    c: ContextNo,
+    target: &Target,
+) -> Result<(), NoMemory>
+    requires apart { IsTrue (are_apart (receivers_of (reverse entries.now) c target.now Sort.Connection)) }
+    requires opener { is_among (receivers_of (reverse entries.now) c target.now Sort.Connection) c ≡ false }
+    ensures ok { OnOk result (ports.new ≡ ports.old ++ opened c (receivers_of (reverse entries.now) c target.now Sort.Connection) ∷ []) }
+    ensures err { OnErr result (ports.new ≡ ports.old) }
+{
+    let Ok(found) = receivers(alloc, entries, c, target, Sort::Connection) else {
+        return Err(NoMemory);
+    };
+    match ports.open(c, found) {
+        Ok(_) => Ok(()),
+        Err(_) => Err(NoMemory),
+    }
+}
+
+/// Makes a request of context c to the receivers of its target.
+pub fn ask(
+    requests: &mut Requests,
+    alloc: Global,
+    entries: &[Entry],
+    c: ContextNo,
+    target: &Target,
+) -> Result<(), NoMemory>
+    requires distinct { IsTrue (are_distinct (receivers_of (reverse entries.now) c target.now Sort.Message)) }
+    requires asker { is_among (receivers_of (reverse entries.now) c target.now Sort.Message) c ≡ false }
+    ensures ok { OnOk result (requests.new ≡ requests.old ++ asked c (receivers_of (reverse entries.now) c target.now Sort.Message) ∷ []) }
+    ensures err { OnErr result (requests.new ≡ requests.old) }
+{
+    let Ok(found) = receivers(alloc, entries, c, target, Sort::Message) else {
+        return Err(NoMemory);
+    };
+    match requests.ask(c, found) {
+        Ok(_) => Ok(()),
+        Err(_) => Err(NoMemory),
+    }
+}
+
+/// Appends an entry that has room.
+pub fn push(journal: &mut Journal, e: Entry)
+    requires { 0 < journal.old.spare }
+    ensures entries { journal.new.entries ≡ journal.old.entries ++ e ∷ [] }
+    ensures spare { journal.old.spare ≤ journal.new.spare + 1 }
+{
+    match journal.push(e) {
+        Ok(()) => {}
+        Err(_) => unreachable!(),
+    }
+}
+
+/// Closes channel k where its disconnect was answered `Done`.
+pub fn close_if_done(ports: &mut Ports, k: ChannelNo, answer: Answer)
+    requires { IsTrue (is_done answer) → IsTrue (is_open_port (slice_get ports.old k.0)) }
+    ensures { (j : ℕ) → slice_get ports.new j ≡ option_map (λ port. cond (is_done answer && (k.0 == j)) (closed port) port) (slice_get ports.old j) }
+{
+    if answers::is_done(answer) {
+        ports.close(k);
+    }
+}
+
+/// Settles request r where the reply to it was answered `First`.
+pub fn settle_if_first(requests: &mut Requests, r: RequestNo, answer: Answer)
+    requires { IsTrue (is_first answer) → IsTrue (is_unsettled_at (slice_get requests.old r.0)) }
+    ensures { (j : ℕ) → slice_get requests.new j ≡ option_map (λ row. cond (is_first answer && (r.0 == j)) (settled row) row) (slice_get requests.old j) }
+{
+    if answers::is_first(answer) {
+        requests.settle(r);
+    }
+}
+
+/// Takes context c out of those that may reply to request r, where its decline was answered `Done`.
+pub fn decline_if_done(requests: &mut Requests, r: RequestNo, c: ContextNo, answer: Answer)
+    requires { IsTrue (is_done answer) → standing_at (slice_get requests.old r.0) c ≡ standing.Open }
+    ensures { (j : ℕ) → slice_get requests.new j ≡ option_map (λ row. cond (is_done answer && (r.0 == j)) (without c row) row) (slice_get requests.old j) }
+{
+    if answers::is_done(answer) {
+        let _ = requests.decline(r, c);
+    }
+}
