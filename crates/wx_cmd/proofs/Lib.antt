@@ -1,2 +1,4 @@
 pub mod TellLemmas
 pub mod EndLemmas
+pub mod JudgeLemmas
+pub mod CompleteLemmas

@@ -1,10 +1,13 @@
 -- Where nothing is wrong, the program does what it is asked.
-use Rattle.std.specs.Prelude.{◌≡◌, ◌⊎◌, ℕ, List, Some, Ok}
+use Rattle.std.specs.Prelude.{◌≡◌, ◌⊎◌, ℕ, List, Some, Ok, Err}
 use Rattle.wx_outside.specs.Causes.{Rose}
 use Rattle.wx_outside.specs.Shelf.{Files, content_at}
+use Rattle.wx_external.specs.World.{WorldLists}
 use Rattle.wx_script.specs.SceneValue.{SceneValue}
 use Rattle.wx_status.specs.declared.status.Status.{Status}
-use Rattle.wx_status.specs.declared.status.Status.TheVariants.{NoMemory}
+use Rattle.wx_status.specs.declared.status.Status.TheVariants.{ManifestRefused, NoMemory}
+use Rattle.wx_world.specs.declared.faults.FileRefusal.{FileRefusal}
+use Rattle.wx_world.specs.Files.{world_of}
 use Rattle.wx_words.specs.Words.{scene_named}
 use Rattle.wx_run.specs.declared.outcome.RunEnd.{RunEnd}
 use Rattle.wx_cmd.specs.Scenes.{scene_in, IsToldOfRun}
@@ -12,7 +15,7 @@ use Rattle.wx_cmd.specs.Endings.{answer_by}
 use Rattle.wx_status.specs.Changes.{ShelfChange, SinkChange, HasFailed}
 
 -- The words name a file, the shelf tells that a scene stands there, and nothing failed in the call.
-pub record NothingIsWrong (words : List (List ℕ)) (shelf : ShelfChange) (out err : SinkChange) : Type 0 where
+pub record NothingFailed (words : List (List ℕ)) (shelf : ShelfChange) (out err : SinkChange) : Type 0 where
   pub file : List ℕ
   pub named : scene_named words ≡ Some file
   pub files : Files
@@ -23,14 +26,32 @@ pub record NothingIsWrong (words : List (List ℕ)) (shelf : ShelfChange) (out e
   pub out_sound : HasFailed out → ⊥
   pub err_sound : HasFailed err → ⊥
 
--- The answer is that of a run of the scene.
-pub record AnswersRun (scene : SceneValue) (result : Status) : Type 0 where
+-- And every manifest that the scene names is good: they make this world.
+pub record NothingIsWrong (words : List (List ℕ)) (shelf : ShelfChange) (out err : SinkChange) : Type 0 where
+  pub sound : NothingFailed words shelf out err
+  pub world : WorldLists
+  pub good : world_of sound.files sound.scene ≡ Ok world
+
+-- But a manifest that the scene names is refused so, and none before it.
+pub record ManifestIsWrong (words : List (List ℕ)) (shelf : ShelfChange) (out err : SinkChange) : Type 0 where
+  pub sound : NothingFailed words shelf out err
+  pub refusal : FileRefusal
+  pub first : world_of sound.files sound.scene ≡ Err refusal
+
+-- The answer is that of a run of the scene in this world.
+pub record AnswersRun (world : WorldLists) (scene : SceneValue) (result : Status) : Type 0 where
   pub end : RunEnd
   pub text : List ℕ
   pub lines : List ℕ
-  pub run : IsToldOfRun scene end text lines
+  pub run : IsToldOfRun world scene end text lines
   pub answered : result ≡ answer_by end
 
--- Then the answer is that of a run of the scene, unless memory was refused.
+-- Where nothing is wrong, the answer is that of a run of the scene in the world of its manifests, unless memory was refused.
 abbrev pub IsComplete : List (List ℕ) → ShelfChange → SinkChange → SinkChange → Status → Type 0
-IsComplete words shelf out err result = (sound : NothingIsWrong words shelf out err) → AnswersRun sound.scene result ⊎ (result ≡ NoMemory)
+IsComplete words shelf out err result =
+    (fine : NothingIsWrong words shelf out err) → AnswersRun fine.world fine.sound.scene result ⊎ (result ≡ NoMemory)
+
+-- Where a manifest is wrong, the answer is that the first such is refused, unless memory was refused.
+abbrev pub TellsManifest : List (List ℕ) → ShelfChange → SinkChange → SinkChange → Status → Type 0
+TellsManifest words shelf out err result =
+    (wrong : ManifestIsWrong words shelf out err) → (result ≡ ManifestRefused wrong.refusal.file wrong.refusal.kind) ⊎ (result ≡ NoMemory)

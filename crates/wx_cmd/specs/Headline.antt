@@ -1,22 +1,22 @@
 -- The headline: what a call of the program answers, and why.
-use Rattle.std.specs.Prelude.{◌≡◌, ℕ, List, Option, Some, None, Ok, Err}
+use Rattle.std.specs.Prelude.{◌≡◌, ◌⊎◌, ℕ, List, Option, Some, None, Ok, Err}
 use Rattle.wx_outside.specs.Causes.{Rose}
 use Rattle.wx_outside.specs.Shelf.{Content, Tells}
+use Rattle.wx_external.specs.World.{WorldLists}
 use Rattle.wx_script.specs.declared.scene.SceneFault.{SceneFault}
 use Rattle.wx_script.specs.SceneValue.{SceneValue}
+use Rattle.wx_world.specs.declared.faults.FileKind.{FileKind}
+use Rattle.wx_world.specs.declared.faults.FileRefusal.{FileRefusal}
+use Rattle.wx_world.specs.Names.{name_at}
+use Rattle.wx_world.specs.Reading.{IsWorldOf, IsFirstRefusal, HasFailedAt}
 use Rattle.wx_run.specs.declared.outcome.RunEnd.{RunEnd}
 use Rattle.wx_status.specs.declared.status.Status.{Status}
-use Rattle.wx_status.specs.Changes.{ShelfChange, SinkChange}
+use Rattle.wx_status.specs.Changes.{ShelfChange, SinkChange, IsUntouched}
 use Rattle.wx_words.specs.Words.{scene_named}
 use Rattle.wx_plain.specs.Headline.{PlainHeadline}
 use Rattle.wx_cmd.specs.Scenes.{scene_in, IsToldOfRun}
-use Rattle.wx_cmd.specs.Verdict.{Verdict, read_fault, refused, no_memory, ran}
+use Rattle.wx_cmd.specs.Verdict.{Verdict, read_fault, refused, manifest_refused, no_memory, ran}
 use Rattle.wx_cmd.specs.Told.{Told}
-
--- The words name a file, and a read failed in the call.
-pub record ReadFailed (words : List (List ℕ)) (shelf : ShelfChange) (file : List ℕ) : Type 0 where
-  pub named : scene_named words ≡ Some file
-  pub failed : Rose shelf.faults_before shelf.faults_after
 
 -- The words name a file, and this stands there, as far as the shelf tells.
 pub record Found (words : List (List ℕ)) (shelf : ShelfChange) (content : Content) : Type 0 where
@@ -30,18 +30,46 @@ pub record Refused (words : List (List ℕ)) (shelf : ShelfChange) (fault : Scen
   pub found : Found words shelf content
   pub refusal : scene_in content ≡ Err fault
 
--- What stands there is a scene, a run of it comes to this end, the text is its journal's, and the lines tell of the end.
-pub record Ran (words : List (List ℕ)) (shelf : ShelfChange) (end : RunEnd) (text lines : List ℕ) : Type 0 where
+-- What stands there is this scene.
+pub record Accepted (words : List (List ℕ)) (shelf : ShelfChange) (scene : SceneValue) : Type 0 where
   pub content : Content
   pub found : Found words shelf content
-  pub scene : SceneValue
   pub accepted : scene_in content ≡ Ok scene
-  pub run : IsToldOfRun scene end text lines
+
+-- The words name this file, and a read failed in the call.
+pub record SceneReadFailed (words : List (List ℕ)) (shelf : ShelfChange) (file : List ℕ) : Type 0 where
+  pub named : scene_named words ≡ Some file
+  pub failed : Rose shelf.faults_before shelf.faults_after
+
+-- What stands there is a scene that names a manifest of this file, none before it is refused, and a read failed in the call.
+pub record ManifestReadFailed (words : List (List ℕ)) (shelf : ShelfChange) (file : List ℕ) : Type 0 where
+  pub scene : SceneValue
+  pub accepted : Accepted words shelf scene
+  pub place : ℕ
+  pub failed : HasFailedAt shelf.files scene shelf.faults_before shelf.faults_after place
+  pub name : file ≡ name_at scene place
+
+-- What stands there is a scene that names a manifest of this file, which is refused so, and none before it.
+pub record ManifestRefused (words : List (List ℕ)) (shelf : ShelfChange) (refusal : FileRefusal) (file : List ℕ) : Type 0 where
+  pub scene : SceneValue
+  pub accepted : Accepted words shelf scene
+  pub first : IsFirstRefusal shelf.files scene refusal
+  pub name : file ≡ name_at scene refusal.file
+
+-- What stands there is a scene, its manifests make a world, a run of the scene in that world comes to this end, the text is
+-- its journal's, and the lines tell of the end.
+pub record Ran (words : List (List ℕ)) (shelf : ShelfChange) (end : RunEnd) (text lines : List ℕ) : Type 0 where
+  pub scene : SceneValue
+  pub accepted : Accepted words shelf scene
+  pub world : WorldLists
+  pub manifests : IsWorldOf shelf.files scene world
+  pub run : IsToldOfRun world scene end text lines
 
 -- the cause of each verdict, of which want of memory alone has none
 abbrev pub Judged : List (List ℕ) → ShelfChange → Verdict → Type 0
-Judged words shelf (read_fault file) = ReadFailed words shelf file
+Judged words shelf (read_fault file) = SceneReadFailed words shelf file ⊎ ManifestReadFailed words shelf file
 Judged words shelf (refused fault) = Refused words shelf fault
+Judged words shelf (manifest_refused refusal file) = ManifestRefused words shelf refusal file
 Judged words shelf no_memory = Unit {0}
 Judged words shelf (ran end text lines) = Ran words shelf end text lines
 
@@ -59,3 +87,10 @@ HeadlineOf None words shelf out err result = PlainHeadline words shelf out err r
 -- The words of a run have its headline, and all others that of the commands which make no run.
 abbrev pub Headline : List (List ℕ) → ShelfChange → SinkChange → SinkChange → Status → Type 0
 Headline words shelf out err result = HeadlineOf (scene_named words) words shelf out err result
+
+-- A manifest is refused only where it is the first of the scene that is, and then nothing is written on `out`.
+pub record RefusesManifest (words : List (List ℕ)) (shelf : ShelfChange) (out : SinkChange) (file : ℕ) (kind : FileKind) : Type 0 where
+  pub scene : SceneValue
+  pub accepted : Accepted words shelf scene
+  pub first : IsFirstRefusal shelf.files scene (record { file = file; kind = kind })
+  pub untouched : IsUntouched out

@@ -1,20 +1,44 @@
--- What a content comes to.
-use Rattle.std.specs.Prelude.{◌≡◌, Ok, Err}
+-- What a content comes to, and what its scene.
+use Rattle.std.specs.Prelude.{◌≡◌, ℕ, List, Ok, Err}
 use Rattle.wx_outside.specs.Shelf.{Content}
+use Rattle.wx_external.specs.World.{WorldLists}
 use Rattle.wx_script.specs.SceneValue.{SceneValue}
+use Rattle.wx_world.specs.Names.{name_at}
+use Rattle.wx_world.specs.Reading.{IsWorldOf, IsFirstRefusal, HasFailedAt}
+use Rattle.wx_status.specs.Changes.{ShelfChange}
 use Rattle.wx_cmd.specs.Scenes.{scene_in, IsToldOfRun}
-use Rattle.wx_cmd.specs.Verdict.{Verdict, read_fault, refused, no_memory, ran}
+use Rattle.wx_cmd.specs.Verdict.{Verdict, read_fault, refused, manifest_refused, no_memory, ran}
 
--- to the text of a run, to a refusal, or to want of memory
-abbrev pub ComesTo : Content → Verdict → Type 0
-ComesTo content (ran end text lines) = (scene : SceneValue) × (scene_in content ≡ Ok scene) × IsToldOfRun scene end text lines
-ComesTo content (refused fault) = scene_in content ≡ Err fault
-ComesTo content no_memory = Unit {0}
-ComesTo content (read_fault file) = ⊥
+-- a run of the scene in this world comes to its text
+abbrev pub IsRunJudged : WorldLists → SceneValue → Verdict → Type 0
+IsRunJudged world scene (ran end text lines) = IsToldOfRun world scene end text lines
+IsRunJudged world scene (read_fault file) = ⊥
+IsRunJudged world scene (refused fault) = ⊥
+IsRunJudged world scene (manifest_refused refusal file) = ⊥
+IsRunJudged world scene no_memory = ⊥
 
--- the verdict tells of a run of the scene
-abbrev pub IsRunJudged : SceneValue → Verdict → Type 0
-IsRunJudged scene (ran end text lines) = IsToldOfRun scene end text lines
-IsRunJudged scene (refused fault) = ⊥
-IsRunJudged scene no_memory = ⊥
-IsRunJudged scene (read_fault file) = ⊥
+-- a scene comes to the text of a run in the world of its files, to its first refused manifest, to a read of a manifest that
+-- failed, or to want of memory
+abbrev pub SceneComesTo : SceneValue → ShelfChange → Verdict → Type 0
+SceneComesTo scene shelf (ran end text lines) = (world : WorldLists) × IsWorldOf shelf.files scene world × IsToldOfRun world scene end text lines
+SceneComesTo scene shelf (manifest_refused refusal file) = IsFirstRefusal shelf.files scene refusal × (file ≡ name_at scene refusal.file)
+SceneComesTo scene shelf (read_fault file) =
+    (place : ℕ) × HasFailedAt shelf.files scene shelf.faults_before shelf.faults_after place × (file ≡ name_at scene place)
+SceneComesTo scene shelf no_memory = Unit {0}
+SceneComesTo scene shelf (refused fault) = ⊥
+
+-- a content comes to what its scene comes to, or to a refusal
+abbrev pub ComesTo : Content → ShelfChange → Verdict → Type 0
+ComesTo content shelf (refused fault) = scene_in content ≡ Err fault
+ComesTo content shelf no_memory = Unit {0}
+ComesTo content shelf (ran end text lines) = (scene : SceneValue) × (scene_in content ≡ Ok scene) × SceneComesTo scene shelf (ran end text lines)
+ComesTo content shelf (manifest_refused refusal file) = (scene : SceneValue) × (scene_in content ≡ Ok scene) × SceneComesTo scene shelf (manifest_refused refusal file)
+ComesTo content shelf (read_fault file) = (scene : SceneValue) × (scene_in content ≡ Ok scene) × SceneComesTo scene shelf (read_fault file)
+
+-- this file could not be read, or memory was refused
+abbrev pub IsReadFault : List ℕ → Verdict → Type 0
+IsReadFault name (read_fault file) = file ≡ name
+IsReadFault name no_memory = Unit {0}
+IsReadFault name (refused fault) = ⊥
+IsReadFault name (manifest_refused refusal file) = ⊥
+IsReadFault name (ran end text lines) = ⊥

@@ -23,13 +23,10 @@ scene_in absent = Err (refusal Missing)
 scene_in too_large = Err (refusal Large)
 scene_in (present bytes) = scene_of bytes
 
--- the world in which no extension has a manifest, and no native host is known
-abbrev pub empty_world : WorldLists
-empty_world = record {}
-
--- A run of the scene leaves a journal and comes to this end; the text is the journal's, and the lines tell of the end.
-pub record IsToldOfRun (scene : SceneValue) (end : RunEnd) (text lines : List ℕ) : Type 0 where
+-- A run of the scene in this world leaves a journal and comes to this end; the text is the journal's, and the lines tell of
+-- the end.
+pub record IsToldOfRun (world : WorldLists) (scene : SceneValue) (end : RunEnd) (text lines : List ℕ) : Type 0 where
   pub journal : List Entry
-  pub run : IsRunOf empty_world scene journal end
+  pub run : IsRunOf world scene journal end
   pub text_of_run : text ≡ journal_text journal
   pub lines_of_run : lines ≡ lines_of_end scene (reverse journal) end

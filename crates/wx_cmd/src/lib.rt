@@ -2,6 +2,9 @@
 #![tactic(auto)]
 
 mod endings;
+mod judging;
+#[cfg(test)]
+mod manifest_tests;
 mod tell;
 #[cfg(test)]
 mod tests;

@@ -6,18 +6,24 @@ ghost use Rattle.wx_cmd.specs.View.{verdict_view};
 
 use crate::endings::answer_by;
 use std::alloc::Global;
+use wx_id::Utf8Text;
 use wx_outside::Sink;
 use wx_run::RunEnd;
 use wx_script::SceneFault;
-use wx_status::{Status, read_fault_line, refusal_line, tell_line, tell_no_memory, tell_run};
+use wx_status::{
+    Status, manifest_line, read_fault_line, refusal_line, tell_line, tell_no_memory, tell_run,
+};
+use wx_world::FileRefusal;
 
 /// What a call for a run answers before it writes.
 #[derive(Drop)]
-pub enum Verdict<'a> {
-    /// This file could not be read.
-    ReadFault(&'a str),
+pub enum Verdict {
+    /// The file of this name could not be read.
+    ReadFault(Utf8Text),
     /// The scene is refused.
     Refused(SceneFault),
+    /// A manifest of the scene is refused, and this is the name of its file.
+    ManifestRefused(FileRefusal, Utf8Text),
     /// Memory was refused.
     NoMemory,
     /// The scene was run to this end, and these are the text of its journal and the lines that tell of the end.
@@ -34,9 +40,19 @@ fn status_of(fault: SceneFault) -> Status
     }
 }
 
+/// The status of a manifest that is refused so.
+fn status_of_manifest(refusal: FileRefusal) -> Status
+    ensures { result ≡ status.ManifestRefused refusal.file refusal.kind }
+{
+    Status::ManifestRefused {
+        file: refusal.file,
+        kind: refusal.kind,
+    }
+}
+
 /// Tells a verdict. Where there is no memory for its line, that is told in its place.
 pub fn tell<O: Sink, E: Sink>(alloc: Global, verdict: Verdict, out: &mut O, err: &mut E) -> Status
-    ensures { Told (verdict_view verdict.entry)
+    ensures { Told (verdict_view verdict)
         (record { before = O.written out.old; after = O.written out.new; faults_before = O.faults out.old; faults_after = O.faults out.new })
         (record { before = E.written err.old; after = E.written err.new; faults_before = E.faults err.old; faults_after = E.faults err.new }) result
         ⊎ Told no_memory
@@ -44,7 +60,7 @@ pub fn tell<O: Sink, E: Sink>(alloc: Global, verdict: Verdict, out: &mut O, err:
         (record { before = E.written err.old; after = E.written err.new; faults_before = E.faults err.old; faults_after = E.faults err.new }) result }
 {
     match verdict {
-        Verdict::ReadFault(file) => match read_fault_line(alloc, file) {
+        Verdict::ReadFault(file) => match read_fault_line(alloc, file.as_str()) {
             Ok(line) => tell_line(Status::ReadFault, line.as_bytes(), err),
             Err(_) => tell_no_memory(err),
         },
@@ -52,6 +68,12 @@ pub fn tell<O: Sink, E: Sink>(alloc: Global, verdict: Verdict, out: &mut O, err:
             Ok(line) => tell_line(status_of(fault), line.as_bytes(), err),
             Err(_) => tell_no_memory(err),
         },
+        Verdict::ManifestRefused(refusal, file) => {
+            match manifest_line(alloc, file.as_str(), refusal.kind) {
+                Ok(line) => tell_line(status_of_manifest(refusal), line.as_bytes(), err),
+                Err(_) => tell_no_memory(err),
+            }
+        }
         Verdict::NoMemory => tell_no_memory(err),
         Verdict::Ran(end, text, lines) => tell_run(answer_by(end), &text, &lines, out, err),
     }

@@ -10,7 +10,7 @@ use wx_script::{Scene, SceneKind};
 use wx_status::{InputKind, Status};
 
 /// Room for every text of these tests.
-const AMPLE: usize = 1000000;
+pub(crate) const AMPLE: usize = 1000000;
 
 /// A shelf with these bytes under the name `s`.
 fn shelf_of(alloc: Global, bytes: Vec<u8>) -> Result<MemoryShelf, AllocError> {
@@ -28,7 +28,7 @@ fn shelf_of(alloc: Global, bytes: Vec<u8>) -> Result<MemoryShelf, AllocError> {
 }
 
 /// An empty sink with so much room.
-fn sink_of(alloc: Global, room: usize) -> MemorySink {
+pub(crate) fn sink_of(alloc: Global, room: usize) -> MemorySink {
     MemorySink {
         bytes: Vec::new(alloc),
         room,
@@ -39,7 +39,7 @@ fn sink_of(alloc: Global, room: usize) -> MemorySink {
 }
 
 /// What a call with these words answers.
-fn answer(
+pub(crate) fn answer(
     alloc: Global,
     words: &[&str],
     shelf: &mut MemoryShelf,
@@ -53,7 +53,7 @@ fn answer(
     Ok(wx(alloc, &owned, shelf, out, err))
 }
 
-const RUN: [&str; 3] = ["run", "--rounds", "s"];
+pub(crate) const RUN: [&str; 3] = ["run", "--rounds", "s"];
 
 /// The scene without endpoints.
 const EMPTY: &str = "wx scene 1 chrome\n";
@@ -352,13 +352,15 @@ fn words(rt: HostRuntime) -> Result<(), Fail> {
         line: 0,
         kind: SceneKind::Missing,
     };
-    let cases: [(&[&str], Status, &str); 17] = [
+    let cases: [(&[&str], Status, &str); 19] = [
         (&[], Status::Usage, USAGE),
         (&["run"], Status::Usage, USAGE),
         (&["run", "a", "b"], Status::Usage, USAGE),
         (&["run", "-x"], Status::Usage, USAGE),
         (&["run", "--rounds", "-x"], Status::Usage, USAGE),
         (&["run", "--rounds", "--rounds", "s"], Status::Usage, USAGE),
+        (&["run", "--"], Status::Usage, USAGE),
+        (&["run", "--", "s"], Status::Usage, USAGE),
         (&["run", "--help"], Status::Usage, USAGE),
         (&["storm", "0"], Status::Usage, USAGE),
         (&["storm", "501"], Status::Usage, USAGE),
@@ -366,7 +368,7 @@ fn words(rt: HostRuntime) -> Result<(), Fail> {
         (&["run", "t"], missing, MISSING),
         (&["run", "--rounds", "t"], missing, MISSING),
         (&["run", "--rounds", ""], missing, MISSING),
-        (&["run", "-"], missing, MISSING),
+        (&["run", "-"], Status::Done, ""),
         (&["run", "s"], Status::Done, ""),
         (&["run", "--rounds", "s"], Status::Done, ""),
         (&["run", "s", "--rounds"], Status::Done, ""),
@@ -374,6 +376,10 @@ fn words(rt: HostRuntime) -> Result<(), Fail> {
     for (words, status, line) in cases {
         let scene = Vec::from_slice(alloc, EMPTY.as_bytes())?;
         let mut shelf = shelf_of(alloc, scene)?;
+        shelf.files.push(MemoryFile {
+            name: String::from_str(alloc, "-")?,
+            bytes: Vec::from_slice(alloc, EMPTY.as_bytes())?,
+        })?;
         let mut out = sink_of(alloc, AMPLE);
         let mut err = sink_of(alloc, AMPLE);
         assert_eq!(rt;

@@ -1,7 +1,7 @@
 -- The lines that answers have on standard error.
 use Rattle.std.specs.Prelude.{ℕ, List, ◌++◌, decimal, codes}
 use Rattle.wx_script.specs.declared.scene.SceneKind.{SceneKind}
-use Rattle.wx_script.specs.declared.scene.SceneKind.TheVariants.{Missing, Large, Head, Form, Order, Id, Repeated, Unknown, Unbound, Json, Many}
+use Rattle.wx_script.specs.declared.scene.SceneKind.TheVariants.{Missing, Large, Head, Form, Order, Id, Repeated, Unknown, Url, Unbound, Json, Many}
 use Rattle.wx_script.specs.declared.scene.SceneFault.{SceneFault}
 use Rattle.wx_match_pattern.specs.declared.fault.PatternKind.{PatternKind}
 use Rattle.wx_match_pattern.specs.declared.fault.PatternKind.TheVariants as pattern
@@ -18,6 +18,7 @@ kind_word Order = codes "order"
 kind_word Id = codes "id"
 kind_word Repeated = codes "repeated"
 kind_word Unknown = codes "unknown"
+kind_word Url = codes "url"
 kind_word Unbound = codes "unbound"
 kind_word Json = codes "json"
 kind_word Many = codes "many"

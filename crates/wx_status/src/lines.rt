@@ -20,6 +20,7 @@ fn kind_word(kind: SceneKind) -> &'static str
         SceneKind::Id => "id",
         SceneKind::Repeated => "repeated",
         SceneKind::Unknown => "unknown",
+        SceneKind::Url => "url",
         SceneKind::Unbound => "unbound",
         SceneKind::Json => "json",
         SceneKind::Many => "many",
@@ -43,7 +44,7 @@ pub fn refusal_line(alloc: Global, fault: SceneFault) -> Result<String, AllocErr
 }
 
 /// The word for the part of a pattern in which a fault lies.
-fn pattern_word(kind: PatternKind) -> &'static str
+pub(crate) fn pattern_word(kind: PatternKind) -> &'static str
     ensures { result.now ≡ lines.pattern_word kind }
 {
     match kind {

@@ -3,6 +3,7 @@ ghost use Rattle.wx_status.specs.Status.{status_number};
 
 use wx_match_pattern::PatternFault;
 use wx_script::{SceneKind, SpentWho};
+use wx_world::FileKind;
 
 /// Why the input of a command is refused.
 #[derive(Clone, Copy, Debug, PartialEq, Eq)]
@@ -34,6 +35,8 @@ pub enum Status {
     SceneRefused { line: u64, kind: SceneKind },
     /// The input of a command is refused.
     InputRefused(InputKind),
+    /// A manifest that the scene names is refused; `file` is its place among the files that the scene names, from 0.
+    ManifestRefused { file: u64, kind: FileKind },
     /// A text or a line was not written whole.
     WriteFault,
     /// Memory was refused.
@@ -55,6 +58,7 @@ impl Status {
             Status::ReadFault => 3,
             Status::SceneRefused { .. } => 4,
             Status::InputRefused(_) => 4,
+            Status::ManifestRefused { .. } => 5,
             Status::WriteFault => 6,
             Status::NoMemory => 7,
             Status::Spent(_) => 8,
