@@ -1,11 +1,9 @@
 //! Scenes with requests, tabs and web pages, and the journals that the rules of the broker and the order of rounds give.
 //! In these texts A and B stand for thirty-two letters `a` and `b`.
-use crate::tests::{AMPLE, answer, shelf_of, sink_of};
+use crate::tests::{AMPLE, RUN, answer, shelf_of, sink_of};
 use std::alloc::{AllocError, Global};
 use std::test::Fail;
 use wx_status::Status;
-
-const RUN: [&str; 3] = ["run", "--rounds", "s"];
 
 /// The text in which ids stand for their letters.
 fn with_ids(alloc: Global, text: &str) -> Result<String, AllocError> {
