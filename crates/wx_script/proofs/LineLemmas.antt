@@ -4,6 +4,7 @@ use Rattle.std.specs.Prelude.{IsTrue, codes, decimal, is_none}
 use Rattle.std.specs.Option.{unwrap_or}
 use Rattle.std.specs.Str.{bytes_eq}
 use Rattle.std.specs.List.{starts_with}
+use Rattle.std.proofs.lemmas.Bool.{and_parts}
 use Rattle.std.proofs.lemmas.Option.{cond_some}
 use Rattle.std.proofs.lemmas.List.{take-append-drop}
 use Rattle.std.proofs.lemmas.Slice.Eq.{bytes_eq-Decides}
@@ -12,10 +13,10 @@ use Rattle.wx_context.specs.Paths.{is_printable}
 use Rattle.wx_script.specs.declared.line.Awaited.{Awaited}
 use Rattle.wx_script.specs.declared.line.Awaited.TheVariants as event
 use Rattle.wx_script.specs.Words.{word, rest, behind, is_name, is_word, is_given, is_small, is_comment}
-use Rattle.wx_script.specs.Line.{NamedTarget, own, extension_named, tab, NamedAct, NamedCommand, Document, NamedContext, Line, listen, connect, take_one, echo, plain, repeat, content, web, comment, endpoint, script, listens_to_nothing, name_at, count_at, tab_id_at, frame_id_at, file_at, extension_at, host_at, page_at, document_at, content_at, web_at, context_with, endpoint_with, flag_at, flags_at, listen_at, extension_target_at, frame_at, tab_with, tab_at, target_at, port_name_at, connect_at, post_at, disconnect_at, channel_act_with, send_at, reply_with, reply_at, decline_at, request_act_with, awaited_at, await_at, echo_at, act_with, act_at, repeat_at, command_at, declaration_with, declaration_at, line_at}
-use Rattle.wx_script.specs.Spelling.{◌␣◌, flag_ahead, flag_words, flags, target_spelling, port_spelling, event_word, act_spelling, command_spelling, document_spelling, endpoint_spelling, spelling, IsNamedTarget, may_follow, IsNamedAct, IsNamedCommand, IsDocument, IsNamedContext, IsFile, IsLine}
+use Rattle.wx_script.specs.Line.{NamedTarget, own, tab, NamedAct, NamedCommand, Document, NamedContext, Line, listen, connect, take_one, echo, plain, repeat, content, web, comment, endpoint, script, listens_to_nothing, name_at, count_at, tab_id_at, frame_id_at, file_at, extension_at, host_at, page_at, document_at, content_at, web_at, context_with, endpoint_with, flag_at, flags_at, listen_at, extension_target_at, frame_at, tab_with, tab_at, target_at, port_name_at, connect_at, post_at, disconnect_at, channel_act_with, send_at, reply_with, reply_at, decline_at, request_act_with, awaited_at, await_at, echo_at, act_with, act_at, repeat_at, command_at, declaration_with, declaration_at, line_at}
+use Rattle.wx_script.specs.Spelling.{◌␣◌, flag_ahead, flag_words, target_spelling, port_spelling, event_word, act_spelling, command_spelling, document_spelling, endpoint_spelling, spelling, IsNamedTarget, may_follow, IsNamedAct, IsNamedCommand, IsDocument, IsNamedContext, IsFile, IsLine}
 use Rattle.wx_script.proofs.Chosen.{bind_some, chosen}
-use Rattle.wx_script.proofs.WordLemmas.{parts, two_parts, both, other}
+use Rattle.wx_script.proofs.WordLemmas.{parts, two_parts}
 use Rattle.wx_script.proofs.NumberLemmas.{tab_id_read, frame_id_read, count_read}
 
 -- a command or a line, and its one spelling
@@ -393,7 +394,7 @@ reply_with_read head text a e =
       | inr h ↦
           let q = cond_some _ _ _ h.1 in
           subst (λ a. IsReadAsAct a (codes "reply" ␣ head ␣ text)) q.1
-          (record { is_act = (both (is_name head) (is_given text) q.0, other (is_name head) (is_given text) q.0); spelled = refl })
+          (record { is_act = and_parts (is_name head) (is_given text) q.0; spelled = refl })
     ]
 
 reply_read : (text : List ℕ) (a : NamedAct) → reply_at text ≡ Some a → IsReadAsAct a (codes "reply" ␣ text)

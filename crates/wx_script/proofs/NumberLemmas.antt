@@ -1,11 +1,11 @@
 -- Numbers and the digits that spell them.
-use Rattle.std.proofs.Common.{◌≡◌, ℕ, zero, suc, ◌^◌, ◌<◌, ◌≤◌, Bool, true, false, not, ◌&&◌, ◌||◌, List, [], ◌∷◌, length, get_or, Some, None, refl, sym, ap, subst, ◌∙◌, arith}
+use Rattle.std.proofs.Common.{◌≡◌, ℕ, zero, suc, ◌^◌, ◌<◌, ◌≤◌, true, false, not, ◌&&◌, ◌||◌, List, [], ◌∷◌, length, get_or, Some, None, refl, sym, ap, subst, ◌∙◌, arith}
 use Rattle.std.specs.Prelude.{IsTrue, decimal, nat_lt, nat_le, ◌==◌, Result, Ok, Err}
 use Rattle.std.specs.List.{list_all}
 use Rattle.std.specs.Result.{result_ok}
 use Rattle.std.specs.Str.{IsUtf8}
 use Rattle.std.specs.Str.Parse.{digits_value, ParsesUnsigned}
-use Rattle.std.proofs.lemmas.Bool.{ltb-true, lt-ltb, leb-true, le-leb}
+use Rattle.std.proofs.lemmas.Bool.{and_parts, ltb-true, lt-ltb, leb-true, le-leb}
 use Rattle.std.proofs.lemmas.Bool.Decides.{nat_tests}
 use Rattle.std.proofs.lemmas.Option.{cond_some}
 use Rattle.std.proofs.lemmas.Str.Parse.{IsNumeralModel, IsDigitsTest, numerals_by_value, parse_digits}
@@ -16,12 +16,12 @@ use Rattle.wx_id.specs.declared.numbers.FrameId.{FrameId}
 use Rattle.wx_script.specs.Line.{number_at, count_at, tab_id, tab_id_at, frame_id, frame_id_at, where_so}
 use Rattle.std.specs.Result.{OkIff}
 use Rattle.wx_script.proofs.Chosen.{bind_some}
-use Rattle.wx_script.proofs.WordLemmas.{both, other, is_no_space, no_space, IsUtf8-from_list_all}
+use Rattle.wx_script.proofs.WordLemmas.{is_no_space, no_space, IsUtf8-from_list_all}
 
 are_digits : IsDigitsTest (λ ds. list_all is_digit ds ≡ true)
 are_digits = record {
   empty = refl;
-  parts = λ c cs e. let d = both (is_digit c) (list_all is_digit cs) e in ((leb-true 48 c (both (nat_le 48 c) (nat_le c 57) d), leb-true c 57 (other (nat_le 48 c) (nat_le c 57) d)), other (is_digit c) (list_all is_digit cs) e);
+  parts = λ c cs e. let d = and_parts (is_digit c) (list_all is_digit cs) e in let within = and_parts (nat_le 48 c) (nat_le c 57) d.0 in ((leb-true 48 c within.0, leb-true c 57 within.1), d.1);
   more = λ c cs k e. rw (le-leb 48 c k.0, le-leb c 57 k.1) e;
 }
 
@@ -37,9 +37,9 @@ number_parts : (ds : List ℕ) → is_number ds ≡ true → HasDigits ds
 number_parts [] e = absurd cc
 number_parts (b ∷ bs) e =
     record {
-      all_digits = both (list_all is_digit (b ∷ bs)) (not (b == 48) || not (is_given bs)) e;
+      all_digits = (and_parts (list_all is_digit (b ∷ bs)) (not (b == 48) || not (is_given bs)) e).0;
       given = omega arith;
-      no_zero = λ zero. alone b bs zero (other (list_all is_digit (b ∷ bs)) (not (b == 48) || not (is_given bs)) e);
+      no_zero = λ zero. alone b bs zero (and_parts (list_all is_digit (b ∷ bs)) (not (b == 48) || not (is_given bs)) e).1;
     }
   where
     alone : (b : ℕ) (bs : List ℕ) → b ≡ 48 → (not (b == 48) || not (is_given bs)) ≡ true → length (b ∷ bs) ≡ 1
@@ -71,10 +71,10 @@ number_read : (text : List ℕ) (n : ℕ) → number_at text ≡ Some n → IsSp
 unfolding number_at
 number_read text n e =
     let q = cond_some _ _ _ e in
-    let small : IsTrue (is_small (digits_value 10 text)) = other (is_number text) _ q.0 in
+    let small : IsTrue (is_small (digits_value 10 text)) = (and_parts (is_number text) _ q.0).1 in
     record {
       is_small = subst (λ n. IsTrue (is_small n)) q.1 small;
-      spelled = number_spelled text (both (is_number text) _ q.0) small ∙ ap decimal q.1;
+      spelled = number_spelled text (and_parts (is_number text) _ q.0).0 small ∙ ap decimal q.1;
     }
 
 number_again : (n : ℕ) → IsTrue (is_small n) → number_at (decimal n) ≡ Some n
@@ -122,7 +122,7 @@ count_read text n e =
     }
 
 count_small : (n : ℕ) → IsTrue (is_count n) → IsTrue (is_small n)
-count_small n h = let most : n ≤ 1000000 = leb-true n 1000000 (other (nat_le 1 n) (nat_le n 1000000) h) in lt-ltb n 4294967296 (omega (arith, most))
+count_small n h = let most : n ≤ 1000000 = leb-true n 1000000 (and_parts (nat_le 1 n) (nat_le n 1000000) h).1 in lt-ltb n 4294967296 (omega (arith, most))
 
 pub count_again : (n : ℕ) → IsTrue (is_count n) → count_at (decimal n) ≡ Some n
 unfolding count_at

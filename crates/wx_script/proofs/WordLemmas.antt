@@ -2,7 +2,7 @@
 use Rattle.std.proofs.Common.{◌≡◌, ◌≢◌, ℕ, suc, ◌+◌, Bool, true, false, not, ◌&&◌, cond, List, [], ◌∷◌, ◌++◌, length, refl, subst, ap, ◌∙◌, arith, Option, None, Some}
 use Rattle.std.specs.Prelude.{◌==◌, IsTrue, nat_le, nat_lt}
 use Rattle.std.specs.List.{list_all}
-use Rattle.std.proofs.lemmas.Bool.{eqb-true, ne_eqb}
+use Rattle.std.proofs.lemmas.Bool.{and_parts, eqb-true, ne_eqb}
 use Rattle.std.specs.Str.{IsUtf8, bytes_eq}
 use Rattle.std.specs.Prelude.{codes, get_or, ◌<◌}
 use Rattle.std.specs.List.{AllPass}
@@ -49,18 +49,10 @@ parts (b ∷ bs) =
 pub two_parts : (text more : List ℕ) → rest text ≡ Some more → text ≡ word text ++ 32 ∷ more
 two_parts text more e = parts text ∙ ap (λ r. word text ++ behind r) e
 
-pub both : (a b : Bool) → (a && b) ≡ true → a ≡ true
-both true b h = refl
-both false b h = absurd cc
-
-pub other : (a b : Bool) → (a && b) ≡ true → b ≡ true
-other true b e = e
-other false b e = absurd cc
-
 -- bytes that all pass a test that a space does not pass
 pub no_space : (p : ℕ → Bool) → ((b : ℕ) → p b ≡ true → is_no_space b ≡ true) → (w : List ℕ) → list_all p w ≡ true → list_all is_no_space w ≡ true
 no_space p none [] h = refl
-no_space p none (b ∷ w) h = rw (none b (both (p b) (list_all p w) h)) (no_space p none w (other (p b) (list_all p w) h))
+no_space p none (b ∷ w) h = rw (none b (and_parts (p b) (list_all p w) h).0) (no_space p none w (and_parts (p b) (list_all p w) h).1)
 
 is_no_space-name_byte : (b : ℕ) → is_name_byte b ≡ true → is_no_space b ≡ true
 is_no_space-name_byte b h =
@@ -83,7 +75,7 @@ identifier_bytes (b ∷ w) h =
     ] refl h
 
 name_bytes-is_name : (w : List ℕ) → is_name w ≡ true → list_all is_name_byte w ≡ true
-name_bytes-is_name w h = identifier_bytes w (both (is_identifier w) (not (bytes_eq w (codes "same"))) h)
+name_bytes-is_name w h = identifier_bytes w (and_parts (is_identifier w) (not (bytes_eq w (codes "same"))) h).0
 
 -- a name has no space
 pub name_no_space : (w : List ℕ) → IsTrue (is_name w) → list_all is_no_space w ≡ true
@@ -91,7 +83,7 @@ name_no_space w h = no_space is_name_byte is_no_space-name_byte w (name_bytes-is
 
 -- a name is not `same`
 pub name_not_same : (w : List ℕ) → IsTrue (is_name w) → bytes_eq w (codes "same") ≡ false
-name_not_same w h = is_not (bytes_eq w (codes "same")) (other (is_identifier w) (not (bytes_eq w (codes "same"))) h)
+name_not_same w h = is_not (bytes_eq w (codes "same")) (and_parts (is_identifier w) (not (bytes_eq w (codes "same"))) h).1
   where
     is_not : (b : Bool) → not b ≡ true → b ≡ false
     is_not true h = absurd cc

@@ -1,7 +1,6 @@
 -- Worked scenes, and faults with their lines.
 use Rattle.std.specs.Prelude.{◌≡◌, ℕ, List, [], ◌∷◌, ◌++◌, map, Result, Ok, Err, Some, None, true, codes}
 use Rattle.wx_context.specs.declared.contexts.Context.TheVariants.{Page, Content, Web}
-use Rattle.wx_context.specs.declared.contexts.Listens.{Listens}
 use Rattle.wx_context.specs.WebUrls.{web_url_of}
 use Rattle.wx_context.specs.declared.contexts.Target.TheVariants.{Own, Other, Tab}
 use Rattle.wx_script.specs.declared.script.Act.{Act}
@@ -9,7 +8,6 @@ use Rattle.wx_script.specs.declared.script.Act.TheVariants as act
 use Rattle.wx_script.specs.declared.script.Command.{Command}
 use Rattle.wx_script.specs.declared.script.Command.TheVariants.{Plain, Repeat}
 use Rattle.wx_script.specs.declared.scene.SceneExtension.{SceneExtension}
-use Rattle.wx_script.specs.declared.scene.SceneFile.{SceneFile}
 use Rattle.wx_script.specs.declared.scene.SceneFile.TheVariants as manifest
 use Rattle.wx_script.specs.declared.scene.SceneEndpoint.{SceneEndpoint}
 use Rattle.wx_script.specs.declared.scene.SceneKind.{SceneKind}

@@ -25,9 +25,9 @@ pub fn scenes()
     ensures repeat_binds { RepeatBinds }
 {}
 
-/// Scenes of requests, targets, files and documents that are read.
+/// Scenes of requests, targets, files, content scripts and web pages that are read.
 #[tactic(auto, unfolding(crate::proofs::OnLiterals::scenes_on_literals))]
-pub fn wider_scenes()
+pub fn requests_targets_and_files()
     ensures requests { Requests }
     ensures one_name_for_each_sort { OneName }
     ensures targets { Targets }

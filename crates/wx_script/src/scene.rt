@@ -52,17 +52,17 @@ pub enum SceneKind {
     Order,
     /// An extension's id is none.
     Id,
-    /// A name or an id stood in an earlier line.
+    /// A name, an id or the name of a host's file stood in an earlier line.
     Repeated,
     /// The extension is not declared above.
     Unknown,
     /// The address of a document is no http or https URL, or is too long.
     Url,
-    /// No earlier command of the script binds the variable.
+    /// No earlier command of the script binds the variable in the sort that is used.
     Unbound,
     /// The message is no JSON text.
     Json,
-    /// An endpoint or a command is one too many.
+    /// This is the 1,025th endpoint.
     Many,
 }
 

@@ -2,8 +2,8 @@ ghost use Rattle.std.specs.Prelude.{◌≡◌, [], ◌∷◌, ◌++◌, length, 
 
 use std::alloc::{AllocError, Global};
 use std::marker::Model;
-use wx_id::{ChannelNo, EntryNo, RequestNo, Utf8Text};
 use wx_context::{Listens, Target};
+use wx_id::{ChannelNo, EntryNo, RequestNo, Utf8Text};
 use wx_machine::JsonText;
 
 /// A variable of a script. Channels, requests that it asks and requests that it receives have variables of their own,

@@ -1,4 +1,4 @@
-use Rattle.std.proofs.Common.{◌≡◌, ◌∙◌, sym, arith, Some, None}
+use Rattle.std.proofs.Common.{◌∙◌, sym, arith, Some, None}
 use Rattle.std.proofs.lemmas.Str.Pattern.{split_parts}
 use Rattle.wx_script.proofs.WordLemmas.{file_name-slash, file_name-no_slash, utf8_behind_slash}
 use Rattle.wx_script.proofs.word.file_name.Goals as goal

@@ -1,6 +1,6 @@
 use Rattle.std.proofs.Common.{refl}
 use Rattle.wx_script.proofs.OnLiterals.{scenes_on_literals}
-use Rattle.wx_script.proofs.laws.wider_scenes.Goals as goal
+use Rattle.wx_script.proofs.laws.requests_targets_and_files.Goals as goal
 
 pub returns-clause-documents : goal.returns-clause-documents
 unfolding scenes_on_literals
