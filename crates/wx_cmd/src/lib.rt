@@ -5,6 +5,8 @@ mod endings;
 mod judging;
 #[cfg(test)]
 mod manifest_tests;
+#[cfg(test)]
+mod message_tests;
 mod tell;
 #[cfg(test)]
 mod tests;

@@ -13,7 +13,7 @@ use wx_status::{InputKind, Status};
 pub(crate) const AMPLE: usize = 1000000;
 
 /// A shelf with these bytes under the name `s`.
-fn shelf_of(alloc: Global, bytes: Vec<u8>) -> Result<MemoryShelf, AllocError> {
+pub(crate) fn shelf_of(alloc: Global, bytes: Vec<u8>) -> Result<MemoryShelf, AllocError> {
     let mut files = Vec::new(alloc);
     files.push(MemoryFile {
         name: String::from_str(alloc, "s")?,

@@ -2,7 +2,7 @@
 use Rattle.std.specs.Prelude.{◌≡◌, ◌++◌, [], reverse, codes}
 use Rattle.wx_external.specs.World.{WorldLists}
 use Rattle.wx_machine.specs.Answers.{made_of}
-use Rattle.wx_machine.specs.Rows.{one_connection_calls, first_reply_calls}
+use Rattle.wx_machine.specs.Rows.{one_connection_calls, first_reply_calls, tabs_and_frames_calls, from_outside_calls, no_manifests}
 use Rattle.wx_journal.specs.Text.{journal_text}
 
 -- two pages, one connection, one posted number
@@ -17,3 +17,17 @@ FirstReplyWinsText =
     (world : WorldLists) → journal_text (reverse (made_of world first_reply_calls []))
     ≡ codes "wx journal 1 chrome\nc0 enter page aaaaaaaaaaaaaaaaaaaaaaaaaaaaaaaa 2:/s -> context 0\nc1 enter page aaaaaaaaaaaaaaaaaaaaaaaaaaaaaaaa 2:/p -> context 1\nc1 listen -m-- -> done\nc2 enter page aaaaaaaaaaaaaaaaaaaaaaaaaaaaaaaa 2:/q -> context 2\nc2 listen -m-- -> done\n"
     ++ codes "c0 send own 4:\"hi\" -> request 0\nc1 take -> asked 0 5\nc2 take -> asked 0 5\nc1 reply 0 1:1 -> first\nc2 reply 0 1:2 -> late\nc0 take -> replied 0 8\nc1 leave -> done\nc2 decline 0 -> late\nc0 leave -> done\nc2 leave -> done\n"
+
+-- connects to a tab and to frames of it
+abbrev pub TabsAndFramesText : Type 0
+TabsAndFramesText =
+    (world : WorldLists) → journal_text (reverse (made_of world tabs_and_frames_calls []))
+    ≡ codes "wx journal 1 chrome\nc0 enter content aaaaaaaaaaaaaaaaaaaaaaaaaaaaaaaa 7 0 12:https://a.b/ -> context 0\nc0 listen c--- -> done\nc1 enter content aaaaaaaaaaaaaaaaaaaaaaaaaaaaaaaa 7 3 13:https://a.b/f -> context 1\nc1 listen c--- -> done\nc2 enter page aaaaaaaaaaaaaaaaaaaaaaaaaaaaaaaa 2:/p -> context 2\n"
+    ++ codes "c2 connect tab 7 5 0: -> no_receiver\nc2 connect tab 7 3 0: -> channel 0\nc1 take -> connected 0 6\nc2 connect tab 7 * 0: -> channel 1\nc0 take -> connected 1 8\nc1 take -> connected 1 8\n"
+
+-- calls from another extension and from a web page
+abbrev pub FromOutsideText : Type 0
+FromOutsideText =
+    journal_text (reverse (made_of no_manifests from_outside_calls []))
+    ≡ codes "wx journal 1 chrome\nc0 enter page aaaaaaaaaaaaaaaaaaaaaaaaaaaaaaaa 2:/p -> context 0\nc0 listen --C- -> done\nc1 enter page bbbbbbbbbbbbbbbbbbbbbbbbbbbbbbbb 2:/q -> context 1\nc2 enter web 7 0 12:https://a.b/ -> context 2\n"
+    ++ codes "c1 connect ext aaaaaaaaaaaaaaaaaaaaaaaaaaaaaaaa 0: -> channel 0\nc2 connect ext aaaaaaaaaaaaaaaaaaaaaaaaaaaaaaaa 0: -> forbidden url\nc0 take -> connected 0 4\nc1 leave -> done\nc2 connect own 0: -> bad_target\n"

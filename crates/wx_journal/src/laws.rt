@@ -1,5 +1,5 @@
 //! Worked examples of a journal's text, each the contract of a function that does nothing.
-ghost use Rattle.wx_journal.specs.Rows.{OneConnectionOnePostText, FirstReplyWinsText};
+ghost use Rattle.wx_journal.specs.Rows.{OneConnectionOnePostText, FirstReplyWinsText, TabsAndFramesText, FromOutsideText};
 
 /// The text of two pages, one connection and one posted number.
 pub fn one_connection_one_post_text()
@@ -9,4 +9,14 @@ pub fn one_connection_one_post_text()
 /// The text of a request to two pages, of which the first to reply wins.
 pub fn first_reply_wins_text()
     ensures { FirstReplyWinsText }
+{}
+
+/// The text of connects to a tab and to frames of it.
+pub fn tabs_and_frames_text()
+    ensures { TabsAndFramesText }
+{}
+
+/// The text of calls from another extension and from a web page.
+pub fn from_outside_text()
+    ensures { FromOutsideText }
 {}

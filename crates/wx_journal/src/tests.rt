@@ -1,6 +1,7 @@
-use crate::{Answer, Call, Context, Entry, Journal, JsonText, PagePath, Target, Who};
+use crate::{Answer, Call, Entry, Journal, JsonText, Who};
 use std::alloc::Global;
 use std::test::Fail;
+use wx_context::{Context, PagePath, Target};
 use wx_id::{ChannelNo, ContextNo, EntryNo, Event, EventKind, ExtensionId, RequestNo, Utf8Text};
 
 fn page(alloc: Global) -> Option<Context> {

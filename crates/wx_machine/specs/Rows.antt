@@ -179,12 +179,15 @@ frame_of_tab frame url = Enter (Content id_a (record { 0 = 7 }) (record { 0 = fr
 abbrev pub connect_to_tab : Option FrameId → Call
 connect_to_tab frame = Connect (Tab (record { 0 = 7 }) frame) []
 
+abbrev pub tabs_and_frames_calls : List (Who × Call)
+tabs_and_frames_calls =
+    by 0 (frame_of_tab 0 (codes "https://a.b/")) ∷ by 0 listen_connect ∷ by 1 (frame_of_tab 3 (codes "https://a.b/f")) ∷ by 1 listen_connect ∷ by 2 (a_page (codes "/p"))
+    ∷ by 2 (connect_to_tab (Some (record { 0 = 5 }))) ∷ by 2 (connect_to_tab (Some (record { 0 = 3 }))) ∷ by 1 Take ∷ by 2 (connect_to_tab None) ∷ by 0 Take ∷ by 1 Take ∷ []
+
 -- a page reaches the content scripts of its extension that listen in a tab, or the one in a frame of it
 abbrev pub TabsAndFrames : Type 0
 TabsAndFrames =
-    (world : WorldLists) → answers_to world
-    (by 0 (frame_of_tab 0 (codes "https://a.b/")) ∷ by 0 listen_connect ∷ by 1 (frame_of_tab 3 (codes "https://a.b/f")) ∷ by 1 listen_connect ∷ by 2 (a_page (codes "/p"))
-    ∷ by 2 (connect_to_tab (Some (record { 0 = 5 }))) ∷ by 2 (connect_to_tab (Some (record { 0 = 3 }))) ∷ by 1 Take ∷ by 2 (connect_to_tab None) ∷ by 0 Take ∷ by 1 Take ∷ [])
+    (world : WorldLists) → answers_to world tabs_and_frames_calls
     ≡ entered 0 ∷ Done ∷ entered 1 ∷ Done ∷ entered 2
     ∷ NoReceiver ∷ OnChannel (channel 0) ∷ told 6 (Connected (channel 0)) ∷ OnChannel (channel 1) ∷ told 8 (Connected (channel 1)) ∷ told 8 (Connected (channel 1)) ∷ []
 
@@ -198,13 +201,16 @@ no_manifests = record { extensions = []; hosts = [] }
 abbrev pub connect_to_a : Call
 connect_to_a = Connect (Other id_a) []
 
+abbrev pub from_outside_calls : List (Who × Call)
+from_outside_calls =
+    by 0 (a_page (codes "/p")) ∷ by 0 (Listen (record { connect = false; message = false; external_connect = true; external_message = false }))
+    ∷ by 1 (Enter (Page id_b (codes "/q"))) ∷ by 2 (Enter (Web (record { 0 = 7 }) (record { 0 = 0 }) (codes "https://a.b/")))
+    ∷ by 1 connect_to_a ∷ by 2 connect_to_a ∷ by 0 Take ∷ by 1 Leave ∷ by 2 connect ∷ []
+
 -- a page that listens to connections from outside hears another extension; no web page may call its extension, nor an extension of its own
 abbrev pub FromOutside : Type 0
 FromOutside =
-    answers_to no_manifests
-    (by 0 (a_page (codes "/p")) ∷ by 0 (Listen (record { connect = false; message = false; external_connect = true; external_message = false }))
-    ∷ by 1 (Enter (Page id_b (codes "/q"))) ∷ by 2 (Enter (Web (record { 0 = 7 }) (record { 0 = 0 }) (codes "https://a.b/")))
-    ∷ by 1 connect_to_a ∷ by 2 connect_to_a ∷ by 0 Take ∷ by 1 Leave ∷ by 2 connect ∷ [])
+    answers_to no_manifests from_outside_calls
     ≡ entered 0 ∷ Done ∷ entered 1 ∷ entered 2
     ∷ OnChannel (channel 0) ∷ Forbidden Url ∷ told 4 (Connected (channel 0)) ∷ Done ∷ BadTarget ∷ []
 
