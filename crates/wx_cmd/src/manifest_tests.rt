@@ -268,3 +268,105 @@ fn first_manifest_told(rt: HostRuntime) -> Result<(), Fail> {
     }
     Ok(())
 }
+
+/// The manifest of `helper` lets web pages of example.com call it, and no other extension; `guest` has none, so each
+/// extension may call it, and no web page.
+const GATED: &str = "wx scene 1 chrome
+extension helper aaaaaaaaaaaaaaaaaaaaaaaaaaaaaaaa scenes/helper.json
+extension guest bbbbbbbbbbbbbbbbbbbbbbbbbbbbbbbb
+host scenes/com.example.echo.json
+page worker helper /sw.js
+  listen external-message
+  await request r
+  reply same r
+page asker guest /q
+  listen external-message
+  send r ext helper \"from an extension\"
+  await request r
+  reply r \"welcome\"
+page popup helper /popup.html
+  send r ext guest \"hello\"
+  await reply r
+web site 7 0 https://www.example.com/
+  send r ext helper \"from the site\"
+  await reply r
+  send r ext guest \"from the site\"
+web other 8 0 https://example.org/
+  send r ext helper \"from elsewhere\"
+";
+
+const GATED_JOURNAL: &str = "wx journal 1 chrome
+c0 enter page aaaaaaaaaaaaaaaaaaaaaaaaaaaaaaaa 6:/sw.js -> context 0
+c0 listen ---M -> done
+c1 enter page bbbbbbbbbbbbbbbbbbbbbbbbbbbbbbbb 2:/q -> context 1
+c1 listen ---M -> done
+c2 enter page aaaaaaaaaaaaaaaaaaaaaaaaaaaaaaaa 11:/popup.html -> context 2
+c3 enter web 7 0 24:https://www.example.com/ -> context 3
+c4 enter web 8 0 20:https://example.org/ -> context 4
+c1 send ext aaaaaaaaaaaaaaaaaaaaaaaaaaaaaaaa 19:\"from an extension\" -> forbidden id
+c2 send ext bbbbbbbbbbbbbbbbbbbbbbbbbbbbbbbb 7:\"hello\" -> request 0
+c3 send ext aaaaaaaaaaaaaaaaaaaaaaaaaaaaaaaa 15:\"from the site\" -> request 1
+c4 send ext aaaaaaaaaaaaaaaaaaaaaaaaaaaaaaaa 16:\"from elsewhere\" -> forbidden url
+c0 take -> asked 1 9
+c1 take -> asked 0 8
+c4 leave -> done
+c0 reply 1 15:\"from the site\" -> first
+c1 reply 0 9:\"welcome\" -> first
+c2 take -> replied 0 15
+c3 take -> replied 1 14
+c0 leave -> done
+c1 leave -> done
+c2 leave -> done
+c3 send ext bbbbbbbbbbbbbbbbbbbbbbbbbbbbbbbb 15:\"from the site\" -> forbidden url
+c3 leave -> done
+";
+
+const HELPER: &str = r#"{"manifest_version": 3, "name": "Helper", "version": "1.2.0",
+ "permissions": ["nativeMessaging", "tabs", "storage"],
+ "background": {"service_worker": "sw.js"},
+ "externally_connectable": {"matches": ["https://*.example.com/*"]}}"#;
+
+const ECHO: &str =
+    r#"{"name": "com.example.echo", "description": "Echo host", "path": "/opt/example/echo",
+ "type": "stdio", "allowed_origins": ["chrome-extension://aaaaaaaaaaaaaaaaaaaaaaaaaaaaaaaa/"]}"#;
+
+/// The run is made in the world of the scene's manifests.
+#[test]
+fn manifests_decide(rt: HostRuntime) -> Result<(), Fail> {
+    let alloc = rt.alloc();
+    let mut shelf = shelf_of(
+        alloc,
+        &[
+            ("s", GATED),
+            ("scenes/helper.json", HELPER),
+            ("scenes/com.example.echo.json", ECHO),
+        ],
+    )?;
+    let mut out = sink_of(alloc, AMPLE);
+    let mut err = sink_of(alloc, AMPLE);
+    let status = answer(alloc, &RUN, &mut shelf, &mut out, &mut err)?;
+    assert_eq!(rt; status, Status::Done);
+    assert_eq!(rt; str::from_utf8(&out.bytes), Ok(GATED_JOURNAL));
+    assert_eq!(rt; err.writes, 0);
+    Ok(())
+}
+
+/// A manifest of more than 67,108,864 bytes is too large.
+#[test]
+fn large_manifest(rt: HostRuntime) -> Result<(), Fail> {
+    let alloc = rt.alloc();
+    let mut shelf = shelf_of(alloc, &[("s", SCENE)])?;
+    shelf.files.push(MemoryFile {
+        name: String::from_str(alloc, "x.json")?,
+        bytes: vec![in alloc; 32u8; 67108865]?,
+    })?;
+    let mut out = sink_of(alloc, AMPLE);
+    let mut err = sink_of(alloc, AMPLE);
+    let status = answer(alloc, &RUN, &mut shelf, &mut out, &mut err)?;
+    assert_eq!(rt; status.number(), 5);
+    assert_eq!(rt;
+        err.bytes.as_slice(),
+        b"wx: manifest refused: x.json: large\n".as_slice()
+    );
+    Ok(())
+}
