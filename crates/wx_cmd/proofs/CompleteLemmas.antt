@@ -17,7 +17,7 @@ use Rattle.wx_status.specs.declared.status.Status.TheVariants as status
 use Rattle.wx_status.specs.Changes.{ShelfChange, SinkChange, HasFailed}
 use Rattle.wx_status.specs.Told.{LineTold, LinesTold, ToldRun}
 use Rattle.wx_words.specs.Words.{scene_named}
-use Rattle.wx_cmd.specs.Scenes.{scene_in, IsToldOfRun}
+use Rattle.wx_cmd.specs.Scenes.{scene_in, IsTextOfRun}
 use Rattle.wx_cmd.specs.Endings.{answer_by}
 use Rattle.wx_cmd.specs.Verdict.{Verdict, read_fault, refused, manifest_refused, no_memory, ran}
 use Rattle.wx_cmd.specs.Told.{Told}
@@ -106,8 +106,8 @@ module _ (words : List (List ℕ)) (shelf : ShelfChange) (out err : SinkChange) 
   answers_run world_law refusal_law world good result no_memory judged told = inr told.1.0
   answers_run world_law refusal_law world good result (ran end text lines) judged told =
       let same : judged.world ≡ world = ok_world judged.world world (sym (world_is world_law judged.scene judged.world judged.accepted judged.manifests) ∙ good) in
-      let run : IsToldOfRun world sound.scene end text lines =
-      subst (λ (w : WorldLists). IsToldOfRun w sound.scene end text lines) same (subst (λ (s : SceneValue). IsToldOfRun judged.world s end text lines) (scene_is judged.scene judged.accepted) judged.run) in
+      let run : IsTextOfRun world sound.scene end text lines =
+      subst (λ (w : WorldLists). IsTextOfRun w sound.scene end text lines) same (subst (λ (s : SceneValue). IsTextOfRun judged.world s end text lines) (scene_is judged.scene judged.accepted) judged.run) in
       elim told [
         | inl h ↦ inl (record { end = end; text = text; lines = lines; run = run; answered = told_answer (answer_by end) lines err result sound.err_sound h.1 })
         | inr h ↦ absurd (sound.out_sound h.2)

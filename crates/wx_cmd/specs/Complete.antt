@@ -10,7 +10,7 @@ use Rattle.wx_world.specs.declared.faults.FileRefusal.{FileRefusal}
 use Rattle.wx_world.specs.Files.{world_of}
 use Rattle.wx_words.specs.Words.{scene_named}
 use Rattle.wx_run.specs.declared.outcome.RunEnd.{RunEnd}
-use Rattle.wx_cmd.specs.Scenes.{scene_in, IsToldOfRun}
+use Rattle.wx_cmd.specs.Scenes.{scene_in, IsTextOfRun}
 use Rattle.wx_cmd.specs.Endings.{answer_by}
 use Rattle.wx_status.specs.Changes.{ShelfChange, SinkChange, HasFailed}
 
@@ -43,7 +43,7 @@ pub record AnswersRun (world : WorldLists) (scene : SceneValue) (result : Status
   pub end : RunEnd
   pub text : List ℕ
   pub lines : List ℕ
-  pub run : IsToldOfRun world scene end text lines
+  pub run : IsTextOfRun world scene end text lines
   pub answered : result ≡ answer_by end
 
 -- Where nothing is wrong, the answer is that of a run of the scene in the world of its manifests, unless memory was refused.

@@ -14,7 +14,7 @@ use Rattle.wx_status.specs.declared.status.Status.{Status}
 use Rattle.wx_status.specs.Changes.{ShelfChange, SinkChange, IsUntouched}
 use Rattle.wx_words.specs.Words.{scene_named}
 use Rattle.wx_plain.specs.Headline.{PlainHeadline}
-use Rattle.wx_cmd.specs.Scenes.{scene_in, IsToldOfRun}
+use Rattle.wx_cmd.specs.Scenes.{scene_in, IsTextOfRun}
 use Rattle.wx_cmd.specs.Verdict.{Verdict, read_fault, refused, manifest_refused, no_memory, ran}
 use Rattle.wx_cmd.specs.Told.{Told}
 
@@ -63,7 +63,7 @@ pub record Ran (words : List (List ℕ)) (shelf : ShelfChange) (end : RunEnd) (t
   pub accepted : Accepted words shelf scene
   pub world : WorldLists
   pub manifests : IsWorldOf shelf.files scene world
-  pub run : IsToldOfRun world scene end text lines
+  pub run : IsTextOfRun world scene end text lines
 
 -- the cause of each verdict, of which want of memory alone has none
 abbrev pub Judged : List (List ℕ) → ShelfChange → Verdict → Type 0

@@ -6,12 +6,12 @@ use Rattle.wx_script.specs.SceneValue.{SceneValue}
 use Rattle.wx_world.specs.Names.{name_at}
 use Rattle.wx_world.specs.Reading.{IsWorldOf, IsFirstRefusal, HasFailedAt}
 use Rattle.wx_status.specs.Changes.{ShelfChange}
-use Rattle.wx_cmd.specs.Scenes.{scene_in, IsToldOfRun}
+use Rattle.wx_cmd.specs.Scenes.{scene_in, IsTextOfRun}
 use Rattle.wx_cmd.specs.Verdict.{Verdict, read_fault, refused, manifest_refused, no_memory, ran}
 
 -- a run of the scene in this world comes to its text
 abbrev pub IsRunJudged : WorldLists → SceneValue → Verdict → Type 0
-IsRunJudged world scene (ran end text lines) = IsToldOfRun world scene end text lines
+IsRunJudged world scene (ran end text lines) = IsTextOfRun world scene end text lines
 IsRunJudged world scene (read_fault file) = ⊥
 IsRunJudged world scene (refused fault) = ⊥
 IsRunJudged world scene (manifest_refused refusal file) = ⊥
@@ -20,7 +20,7 @@ IsRunJudged world scene no_memory = ⊥
 -- a scene comes to the text of a run in the world of its files, to its first refused manifest, to a read of a manifest that
 -- failed, or to want of memory
 abbrev pub SceneComesTo : SceneValue → ShelfChange → Verdict → Type 0
-SceneComesTo scene shelf (ran end text lines) = (world : WorldLists) × IsWorldOf shelf.files scene world × IsToldOfRun world scene end text lines
+SceneComesTo scene shelf (ran end text lines) = (world : WorldLists) × IsWorldOf shelf.files scene world × IsTextOfRun world scene end text lines
 SceneComesTo scene shelf (manifest_refused refusal file) = IsFirstRefusal shelf.files scene refusal × (file ≡ name_at scene refusal.file)
 SceneComesTo scene shelf (read_fault file) =
     (place : ℕ) × HasFailedAt shelf.files scene shelf.faults_before shelf.faults_after place × (file ≡ name_at scene place)

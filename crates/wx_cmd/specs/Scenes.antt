@@ -25,7 +25,7 @@ scene_in (present bytes) = scene_of bytes
 
 -- A run of the scene in this world leaves a journal and comes to this end; the text is the journal's, and the lines tell of
 -- the end.
-pub record IsToldOfRun (world : WorldLists) (scene : SceneValue) (end : RunEnd) (text lines : List ℕ) : Type 0 where
+pub record IsTextOfRun (world : WorldLists) (scene : SceneValue) (end : RunEnd) (text lines : List ℕ) : Type 0 where
   pub journal : List Entry
   pub run : IsRunOf world scene journal end
   pub text_of_run : text ≡ journal_text journal
