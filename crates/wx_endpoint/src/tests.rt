@@ -18,7 +18,7 @@ use wx_context::{Context, Listens, PagePath, Target};
 use wx_external::World;
 use wx_id::{ChannelNo, ContextNo, ExtensionId, RequestNo, Utf8Text};
 use wx_machine::{Answer, JsonText};
-use wx_script::{Act, Command, Scene, Script, Var};
+use wx_script::{Scene, Script};
 
 /// What happens next: a turn of the endpoint, which is context 0, and what it comes to; or a call of context 1.
 #[derive(Clone, Copy)]
@@ -171,7 +171,7 @@ fn play(
 }
 
 /// A name, the commands of the endpoint, the moves, and the lines of the journal behind the endpoint's `enter`.
-const PLAYS: [(&str, &str, &[Move], &str); 6] = [
+const PLAYS: [(&str, &str, &[Move], &str); 10] = [
     (
         "an await sets its variable",
         "  listen connect\n  await connect c\n  post c 1\n",
@@ -211,7 +211,7 @@ const PLAYS: [(&str, &str, &[Move], &str); 6] = [
         "c0 listen c--- -> done\nc1 enter page aaaaaaaaaaaaaaaaaaaaaaaaaaaaaaaa 2:/q -> context 1\nc1 connect own 0: -> channel 0\nc1 connect own 0: -> channel 1\nc0 take -> connected 0 3\nc0 take -> connected 1 4\nc1 post 0 1:7 -> posted\nc0 take -> message 0 7\nc1 disconnect 0 -> done\nc0 take -> disconnected 0 9\nc0 post 0 1:2 -> port_closed\nc0 leave -> done\n",
     ),
     (
-        "an echo answers messages alone, each by its own text",
+        "an echo answers messages, each by its own text, and passes over other events",
         "  listen connect\n  echo 2\n",
         &[
             MOVED,
@@ -270,6 +270,90 @@ const PLAYS: [(&str, &str, &[Move], &str); 6] = [
         ],
         "c0 listen c--- -> done\nc1 enter page aaaaaaaaaaaaaaaaaaaaaaaaaaaaaaaa 2:/q -> context 1\nc1 connect own 0: -> channel 0\nc1 post 0 1:1 -> posted\nc0 take -> connected 0 3\nc0 take -> message 0 4\nc1 disconnect 0 -> done\nc0 take -> disconnected 0 7\nc0 take -> empty\nc0 take -> empty\nc0 leave -> done\n",
     ),
+    (
+        "an await takes the reply or the close of its request, and a refused send clears its variable",
+        "  send r own 1\n  await reply r\n  send r own 2\n  await reply r\n  send r own 3\n  await reply r\n  send r own 4\n  await reply r\n",
+        &[
+            MOVED,
+            Move::Enter,
+            Move::Listen(TO_MESSAGES),
+            MOVED,
+            WAITS,
+            Move::Reply(0, b'7'),
+            MOVED,
+            MOVED,
+            Move::Decline(1),
+            MOVED,
+            Move::Leave,
+            MOVED,
+            MOVED,
+            ENDED,
+        ],
+        "c0 send own 1:1 -> no_receiver\nc1 enter page aaaaaaaaaaaaaaaaaaaaaaaaaaaaaaaa 2:/q -> context 1\nc1 listen -m-- -> done\nc0 send own 1:2 -> request 0\nc1 reply 0 1:7 -> first\nc0 take -> replied 0 5\nc0 send own 1:3 -> request 1\nc1 decline 1 -> done\nc0 take -> closed 1 8\nc1 leave -> done\nc0 send own 1:4 -> no_receiver\nc0 leave -> done\n",
+    ),
+    (
+        "an await of a reply passes over the reply to another request",
+        "  send r own 1\n  send s own 2\n  await reply s\n",
+        &[
+            Move::Enter,
+            Move::Listen(TO_MESSAGES),
+            MOVED,
+            MOVED,
+            Move::Reply(0, b'7'),
+            MOVED,
+            WAITS,
+            Move::Reply(1, b'8'),
+            MOVED,
+            MOVED,
+            ENDED,
+        ],
+        "c1 enter page aaaaaaaaaaaaaaaaaaaaaaaaaaaaaaaa 2:/q -> context 1\nc1 listen -m-- -> done\nc0 send own 1:1 -> request 0\nc0 send own 1:2 -> request 1\nc1 reply 0 1:7 -> first\nc0 take -> replied 0 5\nc1 reply 1 1:8 -> first\nc0 take -> replied 1 7\nc0 leave -> done\n",
+    ),
+    (
+        "a request that came is replied to by a text or by its own, or declined",
+        "  listen message\n  await request r\n  reply r 5\n  await request r\n  reply same r\n  reply same r\n  await request s\n  decline s\n  reply s 6\n",
+        &[
+            MOVED,
+            WAITS,
+            Move::Enter,
+            Move::Send(b'1'),
+            MOVED,
+            MOVED,
+            Move::Send(b'2'),
+            MOVED,
+            MOVED,
+            MOVED,
+            Move::Send(b'3'),
+            MOVED,
+            MOVED,
+            MOVED,
+            MOVED,
+            ENDED,
+        ],
+        "c0 listen -m-- -> done\nc1 enter page aaaaaaaaaaaaaaaaaaaaaaaaaaaaaaaa 2:/q -> context 1\nc1 send own 1:1 -> request 0\nc0 take -> asked 0 3\nc0 reply 0 1:5 -> first\nc1 send own 1:2 -> request 1\nc0 take -> asked 1 6\nc0 reply 1 1:2 -> first\nc0 reply 1 1:2 -> late\nc1 send own 1:3 -> request 2\nc0 take -> asked 2 10\nc0 decline 2 -> done\nc0 reply 2 1:6 -> late\nc0 leave -> done\n",
+    ),
+    (
+        "an echo answers requests and messages, each by its own text",
+        "  listen connect message\n  echo 3\n",
+        &[
+            MOVED,
+            Move::Enter,
+            Move::Connect,
+            Move::Send(b'1'),
+            Move::Post(b'2'),
+            Move::Send(b'3'),
+            MOVED,
+            MOVED,
+            MOVED,
+            MOVED,
+            MOVED,
+            MOVED,
+            MOVED,
+            MOVED,
+            ENDED,
+        ],
+        "c0 listen cm-- -> done\nc1 enter page aaaaaaaaaaaaaaaaaaaaaaaaaaaaaaaa 2:/q -> context 1\nc1 connect own 0: -> channel 0\nc1 send own 1:1 -> request 0\nc1 post 0 1:2 -> posted\nc1 send own 1:3 -> request 1\nc0 take -> connected 0 3\nc0 take -> asked 0 4\nc0 reply 0 1:1 -> first\nc0 take -> message 0 5\nc0 post 0 1:2 -> posted\nc0 take -> asked 1 6\nc0 reply 1 1:3 -> first\nc0 leave -> done\n",
+    ),
 ];
 
 /// The scene whose one endpoint has these commands.
@@ -298,167 +382,6 @@ fn scripts_at_the_desk_of_a_broker(rt: HostRuntime) -> Result<(), Fail> {
                 Some(endpoint) => play(&rt, rt.alloc(), name, &endpoint.script, moves),
                 None => None,
             },
-            None => None,
-        };
-        match made {
-            Some(text) => assert!(rt; text.as_slice() == want.as_bytes(), "{name}"),
-            None => assert!(rt; false, "{name}"),
-        }
-    }
-    Ok(())
-}
-
-/// A command about requests. A variable stands by its number, and a text is one digit.
-#[derive(Clone, Copy)]
-enum Line {
-    Listen(Listens),
-    Send(u32, u8),
-    Reply(u32, u8),
-    ReplySame(u32),
-    Decline(u32),
-    AwaitRequest(u32),
-    AwaitReply(u32),
-    Echo(u32),
-}
-
-fn act_of(alloc: Global, line: Line) -> Option<Act> {
-    match line {
-        Line::Listen(l) => Some(Act::Listen(l)),
-        Line::Send(v, byte) => Some(Act::Send(Var(v), Target::Own, digit(alloc, byte)?)),
-        Line::Reply(v, byte) => Some(Act::Reply(Var(v), digit(alloc, byte)?)),
-        Line::ReplySame(v) => Some(Act::ReplySame(Var(v))),
-        Line::Decline(v) => Some(Act::Decline(Var(v))),
-        Line::AwaitRequest(v) => Some(Act::AwaitRequest(Var(v))),
-        Line::AwaitReply(v) => Some(Act::AwaitReply(Var(v))),
-        Line::Echo(n) => Some(Act::Echo(n)),
-    }
-}
-
-fn script_of(alloc: Global, lines: &[Line]) -> Option<Script> {
-    let mut script = Script::new(alloc);
-    for line in lines {
-        script.push(Command::Plain(act_of(alloc, *line)?)).ok()?;
-    }
-    Some(script)
-}
-
-/// The same with commands about requests.
-const REQUEST_PLAYS: [(&str, &[Line], &[Move], &str); 4] = [
-    (
-        "an await takes the reply or the close of its request, and a refused send clears its variable",
-        &[
-            Line::Send(0, b'1'),
-            Line::AwaitReply(0),
-            Line::Send(0, b'2'),
-            Line::AwaitReply(0),
-            Line::Send(0, b'3'),
-            Line::AwaitReply(0),
-            Line::Send(0, b'4'),
-            Line::AwaitReply(0),
-        ],
-        &[
-            MOVED,
-            Move::Enter,
-            Move::Listen(TO_MESSAGES),
-            MOVED,
-            WAITS,
-            Move::Reply(0, b'7'),
-            MOVED,
-            MOVED,
-            Move::Decline(1),
-            MOVED,
-            Move::Leave,
-            MOVED,
-            MOVED,
-            ENDED,
-        ],
-        "c0 send own 1:1 -> no_receiver\nc1 enter page aaaaaaaaaaaaaaaaaaaaaaaaaaaaaaaa 2:/q -> context 1\nc1 listen -m-- -> done\nc0 send own 1:2 -> request 0\nc1 reply 0 1:7 -> first\nc0 take -> replied 0 5\nc0 send own 1:3 -> request 1\nc1 decline 1 -> done\nc0 take -> closed 1 8\nc1 leave -> done\nc0 send own 1:4 -> no_receiver\nc0 leave -> done\n",
-    ),
-    (
-        "an await of a reply passes over the reply to another request",
-        &[
-            Line::Send(0, b'1'),
-            Line::Send(1, b'2'),
-            Line::AwaitReply(1),
-        ],
-        &[
-            Move::Enter,
-            Move::Listen(TO_MESSAGES),
-            MOVED,
-            MOVED,
-            Move::Reply(0, b'7'),
-            MOVED,
-            WAITS,
-            Move::Reply(1, b'8'),
-            MOVED,
-            MOVED,
-            ENDED,
-        ],
-        "c1 enter page aaaaaaaaaaaaaaaaaaaaaaaaaaaaaaaa 2:/q -> context 1\nc1 listen -m-- -> done\nc0 send own 1:1 -> request 0\nc0 send own 1:2 -> request 1\nc1 reply 0 1:7 -> first\nc0 take -> replied 0 5\nc1 reply 1 1:8 -> first\nc0 take -> replied 1 7\nc0 leave -> done\n",
-    ),
-    (
-        "a request that came is replied to by a text or by its own, or declined",
-        &[
-            Line::Listen(TO_MESSAGES),
-            Line::AwaitRequest(0),
-            Line::Reply(0, b'5'),
-            Line::AwaitRequest(0),
-            Line::ReplySame(0),
-            Line::ReplySame(0),
-            Line::AwaitRequest(1),
-            Line::Decline(1),
-            Line::Reply(1, b'6'),
-        ],
-        &[
-            MOVED,
-            WAITS,
-            Move::Enter,
-            Move::Send(b'1'),
-            MOVED,
-            MOVED,
-            Move::Send(b'2'),
-            MOVED,
-            MOVED,
-            MOVED,
-            Move::Send(b'3'),
-            MOVED,
-            MOVED,
-            MOVED,
-            MOVED,
-            ENDED,
-        ],
-        "c0 listen -m-- -> done\nc1 enter page aaaaaaaaaaaaaaaaaaaaaaaaaaaaaaaa 2:/q -> context 1\nc1 send own 1:1 -> request 0\nc0 take -> asked 0 3\nc0 reply 0 1:5 -> first\nc1 send own 1:2 -> request 1\nc0 take -> asked 1 6\nc0 reply 1 1:2 -> first\nc0 reply 1 1:2 -> late\nc1 send own 1:3 -> request 2\nc0 take -> asked 2 10\nc0 decline 2 -> done\nc0 reply 2 1:6 -> late\nc0 leave -> done\n",
-    ),
-    (
-        "an echo answers requests and messages, each by its own text",
-        &[Line::Listen(TO_BOTH), Line::Echo(3)],
-        &[
-            MOVED,
-            Move::Enter,
-            Move::Connect,
-            Move::Send(b'1'),
-            Move::Post(b'2'),
-            Move::Send(b'3'),
-            MOVED,
-            MOVED,
-            MOVED,
-            MOVED,
-            MOVED,
-            MOVED,
-            MOVED,
-            MOVED,
-            ENDED,
-        ],
-        "c0 listen cm-- -> done\nc1 enter page aaaaaaaaaaaaaaaaaaaaaaaaaaaaaaaa 2:/q -> context 1\nc1 connect own 0: -> channel 0\nc1 send own 1:1 -> request 0\nc1 post 0 1:2 -> posted\nc1 send own 1:3 -> request 1\nc0 take -> connected 0 3\nc0 take -> asked 0 4\nc0 reply 0 1:1 -> first\nc0 take -> message 0 5\nc0 post 0 1:2 -> posted\nc0 take -> asked 1 6\nc0 reply 1 1:3 -> first\nc0 leave -> done\n",
-    ),
-];
-
-#[test]
-fn requests_at_the_desk_of_a_broker(rt: HostRuntime) -> Result<(), Fail> {
-    for (name, commands, moves, lines) in REQUEST_PLAYS {
-        let want = journal_text(rt.alloc(), lines)?;
-        let made = match script_of(rt.alloc(), commands) {
-            Some(script) => play(&rt, rt.alloc(), name, &script, moves),
             None => None,
         };
         match made {
