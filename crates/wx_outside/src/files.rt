@@ -28,11 +28,7 @@ const PIECE: usize = 65_536;
 
 /// All that the source gives, unless it gives more than the limit. A read that a signal interrupted is tried again. Room
 /// for the bytes that are expected is taken at once; where it is refused, it is taken as they come.
-fn read_whole<S: Read>(
-    alloc: Global,
-    source: &mut S,
-    expected: usize,
-) -> Result<Found, ShelfFault>
+fn read_whole<S: Read>(alloc: Global, source: &mut S, expected: usize) -> Result<Found, ShelfFault>
     ensures { IfOk result (λ found. IsWithinLimit (content found)) }
 {
     let mut bytes: Vec<u8> = Vec::new(alloc);

@@ -7,8 +7,8 @@ ghost use Rattle.wx_machine.specs.Channels.{opens, channel, has_live, ends_chann
 
 use crate::channels::{end_of, opens};
 use crate::contexts::{brings, came, has_left, is_live, is_receiver, leaves};
-use wx_id::{ChannelNo, ContextNo, End};
 use wx_context::Target;
+use wx_id::{ChannelNo, ContextNo, End};
 use wx_machine::{Answer, Call, Entry, Sort, Who};
 
 /// Context c lives after the entry.

@@ -4,9 +4,9 @@ ghost use Rattle.std.specs.Option.{option_or};
 ghost use Rattle.std.specs.List.{list_any};
 ghost use Rattle.wx_machine.specs.Contexts.{is_by, is_there, if_numbered, enters, context_of, has_left, is_live, is_leave, contexts, listens_of, listens_after, extension_of, is_extension, is_page_of, is_frame, is_script_in, names, is_external, hears, reaches, reaches_from, is_receiver, receivers_of, numbers_of};
 
+use wx_context::{Context, Listens, Target};
 use wx_external::meant;
 use wx_id::{ContextNo, ExtensionId, FrameId, TabId};
-use wx_context::{Context, Listens, Target};
 use wx_machine::{Answer, Call, Entry, Sort, Who};
 
 /// The entry brings context c in.
@@ -196,18 +196,16 @@ fn is_frame(given: Option<FrameId>, frame: FrameId) -> bool
     }
 }
 
-fn is_script_in(
-    own: Option<&ExtensionId>,
-    t: TabId,
-    f: Option<FrameId>,
-    y: &Context,
-) -> bool
+fn is_script_in(own: Option<&ExtensionId>, t: TabId, f: Option<FrameId>, y: &Context) -> bool
     ensures { result ≡ is_script_in (option_copied own.entry) t f y.now }
 {
     match y {
-        Context::Content { ext, tab, frame, url: _ } => {
-            is_extension(own, ext) && t == *tab && is_frame(f, *frame)
-        }
+        Context::Content {
+            ext,
+            tab,
+            frame,
+            url: _,
+        } => { is_extension(own, ext) && t == *tab && is_frame(f, *frame) }
         _ => false,
     }
 }

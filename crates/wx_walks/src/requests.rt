@@ -7,8 +7,8 @@ ghost use Rattle.wx_machine.specs.Requests.{asks, requests, request, is_asker, i
 
 use crate::closing::is_live_after;
 use crate::contexts::{is_by, is_live, is_receiver};
-use wx_id::{ContextNo, RequestNo};
 use wx_context::Target;
+use wx_id::{ContextNo, RequestNo};
 use wx_machine::{Answer, Call, Entry, LONGEST, Sort, Who};
 
 /// Whether the entry makes a request.
