@@ -8,7 +8,8 @@ use wx_status::Status;
 /// The text in which ids stand for their letters.
 fn with_ids(alloc: Global, text: &str) -> Result<String, AllocError> {
     let text = text.replace(alloc, "A", "aaaaaaaaaaaaaaaaaaaaaaaaaaaaaaaa")?;
-    text.as_str().replace(alloc, "B", "bbbbbbbbbbbbbbbbbbbbbbbbbbbbbbbb")
+    text.as_str()
+        .replace(alloc, "B", "bbbbbbbbbbbbbbbbbbbbbbbbbbbbbbbb")
 }
 
 /// A page that sends, and two that listen to messages: their entries 0 to 7, in which both were asked.
@@ -25,7 +26,8 @@ c2 take -> asked 0 5
 
 /// The scene of a page that sends and awaits the reply, and of two that await the request.
 fn asked_scene(alloc: Global, p: &str, q: &str) -> Result<String, AllocError> {
-    format!(in alloc; "wx scene 1 chrome
+    format!(in alloc;
+        "wx scene 1 chrome
 extension x A
 page s x /s
   send r own \"hi\"
@@ -36,7 +38,8 @@ page p x /p
 {p}page q x /q
   listen message
   await request r
-{q}")
+{q}"
+    )
 }
 
 /// What the two do, and the entries from the eighth on.
