@@ -44,6 +44,22 @@ fn shelf_of(alloc: Global, named: &[(&str, &str)]) -> Result<MemoryShelf, AllocE
     })
 }
 
+/// Puts a file on the shelf, where there is one.
+fn put(
+    alloc: Global,
+    shelf: &mut MemoryShelf,
+    name: &str,
+    text: Option<&str>,
+) -> Result<(), AllocError> {
+    if let Some(text) = text {
+        shelf.files.push(MemoryFile {
+            name: String::from_str(alloc, name)?,
+            bytes: Vec::from_slice(alloc, text.as_bytes())?,
+        })?;
+    }
+    Ok(())
+}
+
 /// Each fault of an extension's manifest, and how it is told.
 const EXTENSIONS: [(&str, ManifestFault, &str); 12] = [
     ("[]", ManifestFault::NotJson, "not_json"),
@@ -199,65 +215,36 @@ fn faulty_manifests(rt: HostRuntime) -> Result<(), Fail> {
 #[test]
 fn first_manifest_told(rt: HostRuntime) -> Result<(), Fail> {
     let alloc = rt.alloc();
-    let good = [("x.json", EXTENSION), ("m/e.json", HOST)];
-    let faulty = [("x.json", "[]"), ("m/e.json", "{")];
-    // The scene, the files beside it, the reads that fail; the number of the status, the line, and how many files were read.
-    let cases: [(&str, &[(&str, &str)], &[u64], u8, &str, u64); 12] = [
-        (SCENE, &good, &[], 0, "", 3),
-        (HOST_FIRST, &good, &[], 0, "", 3),
-        (
-            SCENE,
-            &[],
-            &[],
-            5,
-            "wx: manifest refused: x.json: missing\n",
-            2,
-        ),
-        (
-            SCENE,
-            &good[..1],
-            &[],
-            5,
-            "wx: manifest refused: m/e.json: missing\n",
-            3,
-        ),
-        (
-            SCENE,
-            &faulty,
-            &[],
-            5,
-            "wx: manifest refused: x.json: not_json\n",
-            2,
-        ),
-        (
-            HOST_FIRST,
-            &faulty,
-            &[],
-            5,
-            "wx: manifest refused: m/e.json: not_json\n",
-            2,
-        ),
-        (SCENE, &good, &[0], 3, "wx: read fault: s\n", 1),
-        (SCENE, &good, &[1], 3, "wx: read fault: x.json\n", 2),
-        (SCENE, &good, &[2], 3, "wx: read fault: m/e.json\n", 3),
-        (HOST_FIRST, &good, &[1], 3, "wx: read fault: m/e.json\n", 2),
-        (
-            SCENE,
-            &faulty,
-            &[2],
-            5,
-            "wx: manifest refused: x.json: not_json\n",
-            2,
-        ),
-        (SCENE, &faulty, &[1], 3, "wx: read fault: x.json\n", 2),
+    let (x, e) = (Some(EXTENSION), Some(HOST));
+    let (bad_x, bad_e) = (Some("[]"), Some("{"));
+    let no_x = "wx: manifest refused: x.json: missing\n";
+    let no_e = "wx: manifest refused: m/e.json: missing\n";
+    let not_x = "wx: manifest refused: x.json: not_json\n";
+    let not_e = "wx: manifest refused: m/e.json: not_json\n";
+    let read_x = "wx: read fault: x.json\n";
+    let read_e = "wx: read fault: m/e.json\n";
+    // The scene, its two manifests, the read that fails; the number of the status, the line, and how many reads were made.
+    let cases: [(&str, Option<&str>, Option<&str>, Option<u64>, u8, &str, u64); 12] = [
+        (SCENE, x, e, None, 0, "", 3),
+        (HOST_FIRST, x, e, None, 0, "", 3),
+        (SCENE, None, None, None, 5, no_x, 2),
+        (SCENE, x, None, None, 5, no_e, 3),
+        (SCENE, bad_x, bad_e, None, 5, not_x, 2),
+        (HOST_FIRST, bad_x, bad_e, None, 5, not_e, 2),
+        (SCENE, x, e, Some(0), 3, "wx: read fault: s\n", 1),
+        (SCENE, x, e, Some(1), 3, read_x, 2),
+        (SCENE, x, e, Some(2), 3, read_e, 3),
+        (HOST_FIRST, x, e, Some(1), 3, read_e, 2),
+        (SCENE, bad_x, e, Some(2), 5, not_x, 2),
+        (SCENE, bad_x, bad_e, Some(1), 3, read_x, 2),
     ];
-    for (scene, files, fails, number, line, reads) in cases {
-        let mut shelf = shelf_of(alloc, files)?;
-        shelf.files.push(MemoryFile {
-            name: String::from_str(alloc, "s")?,
-            bytes: Vec::from_slice(alloc, scene.as_bytes())?,
-        })?;
-        shelf.fails_at.extend_from_slice(fails)?;
+    for (scene, extension, host, fails, number, line, reads) in cases {
+        let mut shelf = shelf_of(alloc, &[("s", scene)])?;
+        put(alloc, &mut shelf, "x.json", extension)?;
+        put(alloc, &mut shelf, "m/e.json", host)?;
+        if let Some(read) = fails {
+            shelf.fails_at.push(read)?;
+        }
         let mut out = sink_of(alloc, AMPLE);
         let mut err = sink_of(alloc, AMPLE);
         let status = answer(alloc, &RUN, &mut shelf, &mut out, &mut err)?;

@@ -63,15 +63,19 @@ fn first_fault(rt: HostRuntime) -> Result<(), Fail> {
             kind: FileKind::Missing,
         })
     };
-    let cases: [(&[(&str, &str)], &[u64], WorldFault, u64); 4] = [
-        (&[], &[], missing(0), 1),
-        (&[], &[0], WorldFault::ReadFailed(0), 1),
-        (&[("x.json", EXTENSION)], &[], missing(1), 2),
-        (&[("x.json", EXTENSION)], &[1], WorldFault::ReadFailed(1), 2),
+    let files = [("x.json", EXTENSION), ("m/e.json", HOST)];
+    // How many of the files are there, the read that fails; the fault, and how many reads were made.
+    let cases: [(usize, Option<u64>, WorldFault, u64); 4] = [
+        (0, None, missing(0), 1),
+        (0, Some(0), WorldFault::ReadFailed(0), 1),
+        (1, None, missing(1), 2),
+        (2, Some(1), WorldFault::ReadFailed(1), 2),
     ];
-    for (files, fails, fault, reads) in cases {
-        let mut shelf = shelf_of(alloc, files)?;
-        shelf.fails_at.extend_from_slice(fails)?;
+    for (count, fails, fault, reads) in cases {
+        let mut shelf = shelf_of(alloc, &files[..count])?;
+        if let Some(read) = fails {
+            shelf.fails_at.push(read)?;
+        }
         match read_world(alloc, &scene, &mut shelf) {
             Ok(_) => assert!(rt; false),
             Err(found) => assert_eq!(rt; found, fault),
