@@ -5,10 +5,13 @@
 
 PROGRAM is the built program, crates/wx/out/wx where none is given. Two files are made: 2,000,000 frames of 17 bytes in
 all, and 60 frames whose texts have 1 MiB, the most that a frame may carry. Printed are the wall-clock time (the best of
-three), megabytes a second of the file, and the most memory that the program took.
+three), the processor time of that run, megabytes a second of the file by the wall clock, and the most memory that the
+program took. The files are made by a process of their own: a program that is started counts the memory of the one that
+starts it among its own.
 """
 
 import json
+import multiprocessing
 import os
 import struct
 import subprocess
@@ -43,18 +46,25 @@ def large_frames():
     return frame(text) * LARGE
 
 
+def write(path, frames):
+    with open(path, "wb") as file:
+        file.write(frames())
+
+
 def timed(program, path):
-    """The best time of three, and the peak memory in MB."""
-    best, peak = float("inf"), 0
+    """The best time of three, its processor time, and the peak memory in MB."""
+    best, used, peak = float("inf"), 0, 0
     for _ in range(3):
         begin = time.perf_counter()
         with open(os.devnull, "wb") as out:
             child = subprocess.Popen([program, "frames", path], stdout=out)
             _, status, usage = os.wait4(child.pid, 0)
-        best = min(best, time.perf_counter() - begin)
+        seconds = time.perf_counter() - begin
+        if seconds < best:
+            best, used = seconds, usage.ru_utime + usage.ru_stime
         peak = max(peak, usage.ru_maxrss / 1000)
         assert status == 0, status
-    return best, peak
+    return best, used, peak
 
 
 def read_by_python(data):
@@ -73,17 +83,24 @@ def read_by_python(data):
 
 def main():
     program = sys.argv[1] if len(sys.argv) > 1 else os.path.join(os.path.dirname(os.path.abspath(__file__)), "../crates/wx/out/wx")
-    print("%-14s %8s %9s %7s %9s %12s" % ("frames", "MB", "seconds", "MB/s", "peak MB", "python MB/s"))
+    print("%-16s %8s %9s %9s %7s %9s %12s" % ("frames", "MB", "seconds", "processor", "MB/s", "peak MB", "python MB/s"))
+    kinds = (("2,000,000 small", small_frames), ("60 of 1 MiB", large_frames))
     with tempfile.TemporaryDirectory() as folder:
-        path = os.path.join(folder, "frames")
-        for name, data in (("2,000,000 small", small_frames()), ("60 of 1 MiB", large_frames())):
-            with open(path, "wb") as file:
-                file.write(data)
-            seconds, peak = timed(program, path)
+        made = []
+        for name, frames in kinds:
+            path = os.path.join(folder, frames.__name__)
+            maker = multiprocessing.Process(target=write, args=(path, frames))
+            maker.start()
+            maker.join()
+            assert maker.exitcode == 0
+            made.append((name, path, timed(program, path)))
+        for name, path, (seconds, used, peak) in made:
+            with open(path, "rb") as file:
+                data = file.read()
             python, text = read_by_python(data)
             assert subprocess.run([program, "frames", path], stdout=subprocess.PIPE, check=True).stdout == text
             size = len(data) / 1e6
-            print("%-14s %8.1f %9.3f %7.0f %9.1f %12.0f" % (name, size, seconds, size / seconds, peak, size / python), flush=True)
+            print("%-16s %8.1f %9.3f %9.3f %7.0f %9.1f %12.0f" % (name, size, seconds, used, size / seconds, peak, size / python), flush=True)
 
 
 if __name__ == "__main__":
