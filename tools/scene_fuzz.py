@@ -4,9 +4,10 @@
     tools/scene_fuzz.py [COUNT]
 
 COUNT runs (1,000 where none is given), half of them on random bytes and half on one of the scenes with a few
-bytes changed. Each must end with status 0, 1 or 4: with 4 it writes nothing on standard output and one line on
-standard error, with 1 the journal and a line for each page that waits. The seed is fixed, so that a failure can be
-repeated. Ends with status 1 where a run did not.
+bytes changed. Each must end with status 0, 1, 4, or, where a line names a file, 3 or 5: with these three it writes
+nothing on standard output and one line on standard error, with 1 the journal and a line for each context that waits.
+The runs stand in the folder above this one, where the files that the scenes name are found. The seed is fixed, so that
+a failure can be repeated. Ends with status 1 where a run did not.
 """
 import glob
 import os
@@ -16,6 +17,7 @@ import sys
 
 TOP = os.path.dirname(os.path.dirname(os.path.abspath(__file__)))
 PROGRAM = os.path.join(TOP, "crates", "wx", "out", "wx")
+REFUSALS = {3: b"wx: read fault: ", 4: b"wx: scene refused: line ", 5: b"wx: manifest refused: "}
 ALPHABET = b"abcdefghijklmnopqrstuvwxyz0123456789_ \n/-{}[]\"#"
 
 
@@ -55,14 +57,15 @@ def mutated_scene(rng, scene):
 
 
 def is_well_ended(scene):
-    run = subprocess.run([PROGRAM, "run", "--rounds", "-"], input=scene, capture_output=True, timeout=20)
+    run = subprocess.run([PROGRAM, "run", "--rounds", "-"], input=scene, capture_output=True, timeout=20, cwd=TOP)
     if run.returncode == 0:
         return run.returncode, run.stdout.startswith(b"wx journal 1 chrome\n") and run.stderr == b""
     if run.returncode == 1:
         waiting = [line.startswith(b"wx: stalled: ") for line in run.stderr.splitlines()]
         return run.returncode, run.stdout.startswith(b"wx journal 1 chrome\n") and all(waiting) and len(waiting) > 0
-    refused = run.stderr.startswith(b"wx: scene refused: line ") and run.stderr.count(b"\n") == 1
-    return run.returncode, run.returncode == 4 and run.stdout == b"" and refused
+    line = REFUSALS.get(run.returncode)
+    refused = line is not None and run.stderr.startswith(line) and run.stderr.count(b"\n") == 1
+    return run.returncode, run.stdout == b"" and refused
 
 
 def main():
