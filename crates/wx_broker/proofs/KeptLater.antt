@@ -22,8 +22,10 @@ use Rattle.wx_machine.specs.declared.entries.Answer.TheVariants.{Channel as OnCh
 use Rattle.wx_machine.specs.declared.entries.Entry.{Entry}
 use Rattle.wx_machine.specs.Each.{EachAfter}
 use Rattle.wx_machine.specs.Contexts.{contexts, context_of, is_live, is_leave, receivers_of}
-use Rattle.wx_machine.specs.Channels.{opens, opened_by, ends_channel}
-use Rattle.wx_machine.specs.Requests.{asks, asked_by, requests, is_decline, ends_request}
+use Rattle.wx_machine.specs.Channels.{opens, opened_by}
+use Rattle.wx_machine.specs.Closing.{ends_channel}
+use Rattle.wx_machine.specs.Requests.{asks, asked_by, requests}
+use Rattle.wx_machine.specs.Settling.{is_decline, ends_request}
 use Rattle.wx_machine.specs.Answers.{FollowsMachine, gate_for, where_open, where_heard, where_short}
 use Rattle.wx_port.specs.Port.{Port, opened, closed, left_by as port_left}
 use Rattle.wx_one_shot.specs.Requests.{Request, asked, settled, without, left_by as request_left}

@@ -20,7 +20,8 @@ use Rattle.wx_machine.specs.declared.entries.Answer.{Answer}
 use Rattle.wx_machine.specs.declared.entries.Answer.TheVariants.{Channel as OnChannel, NoEffect, Done, Gone}
 use Rattle.wx_machine.specs.declared.entries.Entry.{Entry}
 use Rattle.wx_machine.specs.Contexts.{is_live, is_leave, receivers_of, same_context}
-use Rattle.wx_machine.specs.Channels.{Ends, opens, opened_by, channels, channel, is_among, end_in, is_one, leaving, ends_by, ends_channel, closed_at, is_closed}
+use Rattle.wx_machine.specs.Channels.{Ends, opens, opened_by, channels, channel, is_among, end_in}
+use Rattle.wx_machine.specs.Closing.{is_one, leaving, ends_by, ends_channel, closed_at, is_closed}
 use Rattle.wx_machine.specs.Answers.{at_end}
 use Rattle.wx_port.specs.Port.{Port, is_other, end_of, is_open_port, closed, with_live, opened, left_by}
 use Rattle.wx_walks.proofs.EndsLater.{channels_more, channel_more}

@@ -20,7 +20,8 @@ use Rattle.wx_machine.specs.declared.entries.Entry.{Entry}
 use Rattle.wx_machine.specs.declared.entries.TheConstants.{LONGEST}
 use Rattle.wx_machine.specs.Contexts.{is_live, is_leave, receivers_of, same_context}
 use Rattle.wx_machine.specs.Channels.{is_among}
-use Rattle.wx_machine.specs.Requests.{Parties, asks, asked_by, requests, request, is_asked, is_decline, has_declined, is_open_to, has_open, settles_by, ends_request, settled_at, is_settled}
+use Rattle.wx_machine.specs.Requests.{Parties, asks, asked_by, requests, request, is_asked}
+use Rattle.wx_machine.specs.Settling.{is_decline, has_declined, is_open_to, has_open, settles_by, ends_request, settled_at, is_settled}
 use Rattle.wx_machine.specs.Answers.{on_request, is_late, where_short}
 use Rattle.wx_one_shot.specs.declared.requests.Standing.TheVariants.{Open, Late, Stranger}
 use Rattle.wx_one_shot.specs.Requests.{Request, asked, settled, is_other, left_to, without, left_by, standing_at, is_unsettled_at}

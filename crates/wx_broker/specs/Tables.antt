@@ -8,8 +8,10 @@ use Rattle.wx_machine.specs.declared.entries.Answer.{Answer}
 use Rattle.wx_machine.specs.declared.entries.Answer.TheVariants.{Channel as OnChannel, Request as OnRequest, Done, First, Late as TooLate, NotYours}
 use Rattle.wx_machine.specs.declared.entries.Entry.{Entry}
 use Rattle.wx_machine.specs.Contexts.{is_live}
-use Rattle.wx_machine.specs.Channels.{Ends, channel, is_closed}
-use Rattle.wx_machine.specs.Requests.{Parties, request, is_settled, is_open_to}
+use Rattle.wx_machine.specs.Channels.{Ends, channel}
+use Rattle.wx_machine.specs.Closing.{is_closed}
+use Rattle.wx_machine.specs.Requests.{Parties, request}
+use Rattle.wx_machine.specs.Settling.{is_settled, is_open_to}
 use Rattle.wx_machine.specs.Answers.{IsLegal}
 use Rattle.wx_port.specs.Port.{Port}
 use Rattle.wx_one_shot.specs.declared.requests.Standing.{Standing}

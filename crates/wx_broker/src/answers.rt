@@ -1,7 +1,8 @@
 //! The machine's answers. Channels and requests are found in their tables, the rest by walking the journal.
 ghost use Rattle.std.specs.Prelude.{◌≡◌, cond, length, not, option_copied, reverse, slice_get};
 ghost use Rattle.wx_machine.specs.Contexts.{context_of, is_live, receivers_of};
-ghost use Rattle.wx_machine.specs.Channels.{channels, channel, end_in, is_closed};
+ghost use Rattle.wx_machine.specs.Channels.{channels, channel, end_in};
+ghost use Rattle.wx_machine.specs.Closing.{is_closed};
 ghost use Rattle.wx_machine.specs.Requests.{requests, request, is_asked};
 ghost use Rattle.wx_machine.specs.Events.{pending, first};
 ghost use Rattle.wx_port.specs.Port.{end_of, is_open_port};

@@ -1,6 +1,7 @@
 -- What each call is answered, and which journals are legal.
-use Rattle.std.specs.Prelude.{◌≡◌, ℕ, length, List, [], ◌∷◌, Bool, ◌||◌, cond, Option, Some, None, IsTrue, reverse, nat_lt, ◌==◌}
+use Rattle.std.specs.Prelude.{◌≡◌, ℕ, length, List, [], ◌∷◌, Bool, true, false, not, ◌&&◌, ◌||◌, cond, Option, Some, None, IsTrue, reverse, nat_lt, nat_le, ◌==◌}
 use Rattle.wx_id.specs.declared.numbers.ContextNo.{ContextNo}
+use Rattle.wx_id.specs.declared.numbers.HostNo.{HostNo}
 use Rattle.wx_id.specs.declared.events.Event.{Event}
 use Rattle.wx_id.specs.declared.events.End.{End}
 use Rattle.wx_id.specs.declared.events.End.TheVariants.{Neither}
@@ -8,20 +9,28 @@ use Rattle.wx_context.specs.declared.contexts.Context.{Context}
 use Rattle.wx_context.specs.declared.contexts.Target.{Target}
 use Rattle.wx_external.specs.declared.gates.Verdict.{Verdict}
 use Rattle.wx_external.specs.declared.gates.Verdict.TheVariants as gate
+use Rattle.wx_external.specs.declared.native.NativeVerdict.{NativeVerdict}
+use Rattle.wx_external.specs.declared.native.NativeVerdict.TheVariants as native
 use Rattle.wx_external.specs.World.{WorldLists}
-use Rattle.wx_external.specs.Gate.{gate_of}
+use Rattle.wx_external.specs.Gate.{gate_of, native_gate_of}
 use Rattle.wx_machine.specs.declared.sorts.Sort.TheVariants.{Connection, Message}
 use Rattle.wx_machine.specs.declared.entries.Who.{Who}
-use Rattle.wx_machine.specs.declared.entries.Who.TheVariants.{Context as ByContext}
+use Rattle.wx_machine.specs.declared.entries.Who.TheVariants.{Context as ByContext, Host as ByHost}
 use Rattle.wx_machine.specs.declared.entries.Call.{Call}
-use Rattle.wx_machine.specs.declared.entries.Call.TheVariants.{Enter, Listen, Leave, Connect, Post, Disconnect, Send, Reply, Decline, Take}
+use Rattle.wx_machine.specs.declared.entries.Call.TheVariants.{Enter, Listen, Leave, Connect, Post, Disconnect, Send, Reply, Decline, Take, ConnectNative, SendNative, HostTake, HostSaid, HostEnded}
 use Rattle.wx_machine.specs.declared.entries.Answer.{Answer}
-use Rattle.wx_machine.specs.declared.entries.Answer.TheVariants.{Entered, Channel as OnChannel, Request as OnRequest, Event as Told, Done, Gone, BadTarget, Forbidden, NoReceiver, Posted, NoPort, PortClosed, TooLong, NoEffect, First, Late, NotYours, Empty}
+use Rattle.wx_machine.specs.declared.entries.Answer.TheVariants.{Entered, Channel as OnChannel, Request as OnRequest, Event as Told, Done, Gone, BadTarget, Forbidden, NoReceiver, Posted, NoPort, PortClosed, TooLong, NoEffect, First, Late, NotYours, Empty, Text as HasText, NoPermission, BadHostName, HostNotFound, HostForbidden, End as NoMore, Passed, Ignored, Already}
 use Rattle.wx_machine.specs.declared.entries.Entry.{Entry}
-use Rattle.wx_machine.specs.declared.entries.TheConstants.{LONGEST}
+use Rattle.wx_machine.specs.declared.entries.TheConstants.{LONGEST, LONGEST_SAID}
 use Rattle.wx_machine.specs.Contexts.{contexts, context_of, is_live, receivers_of}
-use Rattle.wx_machine.specs.Channels.{channels, channel, end_in, is_closed}
-use Rattle.wx_machine.specs.Requests.{requests, request, is_asked, has_declined, is_settled}
+use Rattle.wx_machine.specs.Channels.{channels, channel, end_in}
+use Rattle.wx_machine.specs.Requests.{requests, request, is_asked}
+use Rattle.wx_machine.specs.declared.work.Work.{Work}
+use Rattle.wx_machine.specs.declared.work.Work.TheVariants.{Channel as ForChannel, Request as ForRequest}
+use Rattle.wx_machine.specs.Hosts.{hosts, work_of}
+use Rattle.wx_machine.specs.Closing.{is_closed}
+use Rattle.wx_machine.specs.Settling.{has_declined, is_settled}
+use Rattle.wx_machine.specs.Texts.{has_ended, texts_left, is_over}
 use Rattle.wx_machine.specs.Events.{pending, first}
 use Rattle.wx_machine.specs.Each.{EachAfter}
 
@@ -35,6 +44,20 @@ abbrev pub where_open : Verdict → Answer → Answer
 where_open (gate.Open external) a = a
 where_open gate.BadTarget a = BadTarget
 where_open (gate.Forbidden rule) a = Forbidden rule
+
+-- whether a caller may start the host of that name; one that never came in may not
+abbrev pub native_gate_for : WorldLists → Option Context → List ℕ → NativeVerdict
+native_gate_for world None name = native.BadTarget
+native_gate_for world (Some x) name = native_gate_of world x name
+
+-- where that gate is not open that is the answer
+abbrev pub where_native : NativeVerdict → Answer → Answer
+where_native (native.Open place) a = a
+where_native native.BadTarget a = BadTarget
+where_native native.NoPermission a = NoPermission
+where_native native.BadHostName a = BadHostName
+where_native native.HostNotFound a = HostNotFound
+where_native native.HostForbidden a = HostForbidden
 
 -- with no receiver that is the answer
 abbrev pub where_heard : List ContextNo → Answer → Answer
@@ -76,6 +99,29 @@ answer_to world past c (Send target text) =
 answer_to world past c (Reply r text) = on_request (is_asked (request past r.0) c) (is_late past r.0 c) (where_short text First)
 answer_to world past c (Decline r) = on_request (is_asked (request past r.0) c) (is_late past r.0 c) Done
 answer_to world past c Take = told_or_empty (first (pending past c))
+answer_to world past c (ConnectNative name) =
+    where_native (native_gate_for world (context_of past c) name) (OnChannel (record { 0 = length (channels past) }))
+answer_to world past c (SendNative name text) =
+    where_native (native_gate_for world (context_of past c) name) (where_short text (OnRequest (record { 0 = length (requests past) })))
+answer_to world past c _ = Gone
+
+-- the first text that is left for a host, or else that none comes any more, or that none is there yet
+abbrev pub text_or_end : List ℕ → Bool → Answer
+text_or_end (n ∷ ns) over = HasText (record { 0 = n })
+text_or_end [] over = cond over NoMore Empty
+
+-- what a host that says something is answered, by what it works for
+abbrev pub said_for : List Entry → Option Work → Answer
+said_for past None = Gone
+said_for past (Some (ForChannel k)) = cond (is_closed past k.0) PortClosed Passed
+said_for past (Some (ForRequest r)) = cond (is_settled past r.0) Ignored Passed
+
+-- what a host is answered
+abbrev pub answer_to_host : List Entry → HostNo → Call → Answer
+answer_to_host past h HostTake = cond (has_ended past h) NoMore (text_or_end (texts_left past h) (is_over past (work_of past h)))
+answer_to_host past h (HostSaid text) = said_for past (work_of past h)
+answer_to_host past h (HostEnded reason) = cond (has_ended past h) Already Done
+answer_to_host past h _ = Gone
 
 -- who enters need not live; every other call of one who does not is answered `Gone`
 abbrev pub if_live : Call → Bool → Answer → Answer
@@ -85,11 +131,25 @@ if_live _ live a = cond live a Gone
 -- the answer to a call after this past
 abbrev pub answer_after : WorldLists → List Entry → Who → Call → Answer
 answer_after world past (ByContext c) call = if_live call (is_live past c) (answer_to world past c call)
+answer_after world past (ByHost h) call = answer_to_host past h call
 
--- who may make a call: a context whose number was given out, and for an enter the next number
+-- a call that hosts make
+abbrev pub is_of_host : Call → Bool
+is_of_host HostTake = true
+is_of_host (HostSaid text) = true
+is_of_host (HostEnded reason) = true
+is_of_host _ = false
+
+-- a host says no more than it may
+abbrev pub is_short_said : Call → Bool
+is_short_said (HostSaid text) = nat_le (length text) LONGEST_SAID
+is_short_said _ = true
+
+-- who may make a call: a context whose number was given out, and for an enter the next number; or a host that was started
 abbrev pub may_make : List Entry → Who → Call → Bool
 may_make past (ByContext c) (Enter x) = c.0 == contexts past
-may_make past (ByContext c) _ = nat_lt c.0 (contexts past)
+may_make past (ByContext c) call = not (is_of_host call) && nat_lt c.0 (contexts past)
+may_make past (ByHost h) call = is_of_host call && is_short_said call && nat_lt h.0 (length (hosts past))
 
 -- An entry was made by one who may make it, and has the machine's answer after the entries before it.
 pub record FollowsMachine (world : WorldLists) (past : List Entry) (e : Entry) : Type 0 where

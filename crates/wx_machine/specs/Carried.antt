@@ -1,9 +1,8 @@
 -- The JSON texts that entries carry.
 use Rattle.std.specs.Prelude.{ℕ, List, Option, Some, None, slice_get, reverse}
-use Rattle.std.specs.Option.{option_and_then}
 use Rattle.wx_id.specs.declared.numbers.EntryNo.{EntryNo}
 use Rattle.wx_machine.specs.declared.entries.Call.{Call}
-use Rattle.wx_machine.specs.declared.entries.Call.TheVariants.{Post, Send, Reply}
+use Rattle.wx_machine.specs.declared.entries.Call.TheVariants.{Post, Send, Reply, SendNative, HostSaid}
 use Rattle.wx_machine.specs.declared.entries.Entry.{Entry}
 
 -- the JSON text that a call carries
@@ -11,6 +10,8 @@ abbrev pub text_in : Call → Option (List ℕ)
 text_in (Post k text) = Some text
 text_in (Send target text) = Some text
 text_in (Reply r text) = Some text
+text_in (SendNative name text) = Some text
+text_in (HostSaid text) = Some text
 text_in _ = None
 
 abbrev pub text_carried : Option Entry → Option (List ℕ)

@@ -13,7 +13,7 @@ use Rattle.wx_context.specs.declared.contexts.Listens.{Listens}
 use Rattle.wx_machine.specs.declared.sorts.Sort.{Sort}
 use Rattle.wx_machine.specs.declared.sorts.Sort.TheVariants.{Connection, Message}
 use Rattle.wx_machine.specs.declared.entries.Who.{Who}
-use Rattle.wx_machine.specs.declared.entries.Who.TheVariants.{Context as ByContext}
+use Rattle.wx_machine.specs.declared.entries.Who.TheVariants.{Context as ByContext, Host as ByHost}
 use Rattle.wx_machine.specs.declared.entries.Call.{Call}
 use Rattle.wx_machine.specs.declared.entries.Call.TheVariants.{Enter, Listen, Leave}
 use Rattle.wx_machine.specs.declared.entries.Answer.{Answer}
@@ -28,6 +28,7 @@ same_context c d = c.0 == d.0
 -- context c makes the call
 abbrev pub is_by : Who → ContextNo → Bool
 is_by (ByContext d) c = same_context d c
+is_by (ByHost h) c = false
 
 -- the context that a call brings in, with the number that it was answered with
 abbrev pub brought : Who → Call → Answer → Option (ContextNo × Context)

@@ -8,15 +8,20 @@ use Rattle.wx_id.specs.declared.events.EventKind.TheVariants.{Connected, Message
 use Rattle.wx_id.specs.declared.events.End.{End}
 use Rattle.wx_id.specs.declared.events.End.TheVariants.{Opener, Receiver}
 use Rattle.wx_machine.specs.declared.entries.Who.{Who}
-use Rattle.wx_machine.specs.declared.entries.Who.TheVariants.{Context as ByContext}
+use Rattle.wx_machine.specs.declared.entries.Who.TheVariants.{Context as ByContext, Host as ByHost}
 use Rattle.wx_machine.specs.declared.entries.Call.{Call}
-use Rattle.wx_machine.specs.declared.entries.Call.TheVariants.{Post, Disconnect, Leave, Reply, Decline, Take}
+use Rattle.wx_machine.specs.declared.entries.Call.TheVariants.{Post, Disconnect, Leave, Reply, Decline, Take, HostSaid, HostEnded}
 use Rattle.wx_machine.specs.declared.entries.Answer.{Answer}
-use Rattle.wx_machine.specs.declared.entries.Answer.TheVariants.{Event as Told, Posted, First, Done}
+use Rattle.wx_machine.specs.declared.entries.Answer.TheVariants.{Event as Told, Posted, First, Done, Passed}
 use Rattle.wx_machine.specs.declared.entries.Entry.{Entry}
 use Rattle.wx_machine.specs.Contexts.{is_by, is_live}
-use Rattle.wx_machine.specs.Channels.{Ends, opens, channels, channel, end_in, closes}
-use Rattle.wx_machine.specs.Requests.{Parties, asks, requests, request, is_asker, is_asked, settles}
+use Rattle.wx_machine.specs.Channels.{Ends, opens, channels, channel, end_in}
+use Rattle.wx_machine.specs.Requests.{Parties, asks, requests, request, is_asker, is_asked}
+use Rattle.wx_machine.specs.declared.work.Work.{Work}
+use Rattle.wx_machine.specs.declared.work.Work.TheVariants.{Channel as ForChannel, Request as ForRequest}
+use Rattle.wx_machine.specs.Hosts.{work_of}
+use Rattle.wx_machine.specs.Closing.{closes}
+use Rattle.wx_machine.specs.Settling.{settles}
 
 abbrev pub is_receiving : End → Bool
 is_receiving Receiver = true
@@ -30,9 +35,10 @@ on b kind = cond b (kind ∷ []) []
 abbrev pub connected : ℕ → Option Ends → ContextNo → List EventKind
 connected k ends c = on (is_receiving (end_in ends c)) (Connected (record { 0 = k }))
 
--- the side of a channel on which the caller stands
+-- the side of a channel on which the caller stands; a host stands where receivers do
 abbrev pub side_of : Option Ends → Who → End
 side_of ends (ByContext c) = end_in ends c
+side_of ends (ByHost h) = Receiver
 
 -- what one side does goes to the other: to each receiver that lives, or to the opener
 abbrev pub goes : End → End → Bool → Bool
@@ -43,38 +49,67 @@ goes _ _ live = false
 abbrev pub goes_to : List Entry → Option Ends → Who → ContextNo → Bool
 goes_to past ends who c = goes (side_of ends who) (end_in ends c) (is_live past c)
 
--- a message that was posted goes to the other side
+-- what the caller works for, where it is a host
+abbrev pub work_by : List Entry → Who → Option Work
+work_by past (ByHost h) = work_of past h
+work_by past (ByContext c) = None
+
+-- what a host says on its channel goes to the opener
+abbrev pub said : List Entry → Who → Option Work → ContextNo → List EventKind
+said past who (Some (ForChannel k)) c = on (goes_to past (channel past k.0) who c) (Message k)
+said past who _ c = []
+
+-- a message that was posted, or that a host said, goes to the other side
 abbrev pub message : List Entry → Who → Call → Answer → ContextNo → List EventKind
 message past who (Post k text) Posted c = on (goes_to past (channel past k.0) who c) (Message k)
+message past who (HostSaid text) Passed c = said past who (work_by past who) c
 message past who _ _ c = []
 
 -- the end of channel k is told to the other side
 abbrev pub disconnected_on : List Entry → Entry → ContextNo → ℕ → List EventKind
 disconnected_on past e c k = on (closes past e k && goes_to past (channel past k) e.who c) (Disconnected (record { 0 = k }))
 
--- a disconnect ends one channel, and a leave all those of which it is the last live end on its side
+-- the end of a host's channel
+abbrev pub host_disconnected : List Entry → Entry → Option Work → ContextNo → List EventKind
+host_disconnected past e (Some (ForChannel k)) c = disconnected_on past e c k.0
+host_disconnected past e _ c = []
+
+-- a disconnect ends one channel, a leave all those of which it is the last live end on its side, and a host's end its own
 abbrev pub disconnected : List Entry → Entry → Call → ContextNo → List EventKind
 disconnected past e (Disconnect k) c = disconnected_on past e c k.0
 disconnected past e Leave c = flat_map (disconnected_on past e c) (range_with_len 0 (length (channels past)))
+disconnected past e (HostEnded reason) c = host_disconnected past e (work_by past e.who) c
 disconnected past e _ c = []
 
 -- a request that an entry makes is told to each receiver
 abbrev pub asked : ℕ → Option Parties → ContextNo → List EventKind
 asked r parties c = on (is_asked parties c) (Asked (record { 0 = r }))
 
+-- what a host says to its request goes to the asker
+abbrev pub answered : List Entry → Option Work → ContextNo → List EventKind
+answered past (Some (ForRequest r)) c = on (is_asker (request past r.0) c) (Replied r)
+answered past _ c = []
+
 -- the first reply goes to the asker
-abbrev pub replied : List Entry → Call → Answer → ContextNo → List EventKind
-replied past (Reply r text) First c = on (is_asker (request past r.0) c) (Replied r)
-replied past _ _ c = []
+abbrev pub replied : List Entry → Who → Call → Answer → ContextNo → List EventKind
+replied past who (Reply r text) First c = on (is_asker (request past r.0) c) (Replied r)
+replied past who (HostSaid text) Passed c = answered past (work_by past who) c
+replied past who _ _ c = []
 
 -- that request r is settled without a reply is told to the asker, unless it is the caller
 abbrev pub unanswered_on : List Entry → Entry → ContextNo → ℕ → List EventKind
 unanswered_on past e c r = on (settles past e r && is_asker (request past r) c && not (is_by e.who c)) (Closed (record { 0 = r }))
 
--- a decline settles one request, and a leave all those of which it is the last open receiver
+-- that a host's request is settled without a reply
+abbrev pub host_unanswered : List Entry → Entry → Option Work → ContextNo → List EventKind
+host_unanswered past e (Some (ForRequest r)) c = unanswered_on past e c r.0
+host_unanswered past e _ c = []
+
+-- a decline settles one request, a leave all those of which it is the last open receiver, and a host's end its own
 abbrev pub unanswered : List Entry → Entry → Call → ContextNo → List EventKind
 unanswered past e (Decline r) c = unanswered_on past e c r.0
 unanswered past e Leave c = flat_map (unanswered_on past e c) (range_with_len 0 (length (requests past)))
+unanswered past e (HostEnded reason) c = host_unanswered past e (work_by past e.who) c
 unanswered past e _ c = []
 
 -- what entry e, with these before it, tells context c of channels
@@ -83,7 +118,7 @@ of_channels past e c = connected (length (channels past)) (opens past e) c ++ me
 
 -- what it tells context c of requests
 abbrev pub of_requests : List Entry → Entry → ContextNo → List EventKind
-of_requests past e c = asked (length (requests past)) (asks past e) c ++ replied past e.call e.answer c ++ unanswered past e e.call c
+of_requests past e c = asked (length (requests past)) (asks past e) c ++ replied past e.who e.call e.answer c ++ unanswered past e e.call c
 
 -- all that it tells: of channels in rising number, then of requests
 abbrev pub tells : List Entry → Entry → ContextNo → List EventKind

@@ -3,6 +3,10 @@ pub mod Carried
 pub mod Contexts
 pub mod Channels
 pub mod Requests
+pub mod Hosts
+pub mod Closing
+pub mod Settling
+pub mod Texts
 pub mod Events
 pub mod Answers
 pub mod Rows

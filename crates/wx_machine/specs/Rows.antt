@@ -1,6 +1,5 @@
 -- Worked examples of the machine: calls, and what they are answered one after another.
-use Rattle.std.specs.Prelude.{◌≡◌, ℕ, List, [], ◌∷◌, ◌++◌, map, true, false, reverse, codes, Option, Some, None}
-use Rattle.wx_id.specs.declared.numbers.TabId.{TabId}
+use Rattle.std.specs.Prelude.{◌≡◌, ℕ, List, [], ◌∷◌, ◌++◌, map, Bool, true, false, reverse, codes, Option, Some, None}
 use Rattle.wx_id.specs.declared.numbers.FrameId.{FrameId}
 use Rattle.wx_id.specs.declared.numbers.ChannelNo.{ChannelNo}
 use Rattle.wx_id.specs.declared.numbers.RequestNo.{RequestNo}
@@ -10,14 +9,16 @@ use Rattle.wx_context.specs.declared.contexts.Context.TheVariants.{Page, Content
 use Rattle.wx_context.specs.declared.contexts.Target.TheVariants.{Own, Other, Tab}
 use Rattle.wx_external.specs.declared.gates.Rule.TheVariants.{Url}
 use Rattle.wx_external.specs.World.{WorldLists}
+use Rattle.wx_external.specs.declared.world.Installed.{Installed}
 use Rattle.wx_machine.specs.declared.entries.Who.{Who}
-use Rattle.wx_machine.specs.declared.entries.Who.TheVariants.{Context as ByContext}
+use Rattle.wx_machine.specs.declared.entries.Who.TheVariants.{Context as ByContext, Host as ByHost}
 use Rattle.wx_machine.specs.declared.entries.Call.{Call}
-use Rattle.wx_machine.specs.declared.entries.Call.TheVariants.{Enter, Listen, Leave, Connect, Post, Disconnect, Send, Reply, Decline, Take}
+use Rattle.wx_machine.specs.declared.entries.Call.TheVariants.{Enter, Listen, Leave, Connect, Post, Disconnect, Send, Reply, Decline, Take, ConnectNative, SendNative, HostTake, HostSaid, HostEnded}
 use Rattle.wx_machine.specs.declared.entries.Answer.{Answer}
-use Rattle.wx_machine.specs.declared.entries.Answer.TheVariants.{Entered, Channel as OnChannel, Request as OnRequest, Event as Told, Done, Gone, BadTarget, Forbidden, NoReceiver, Posted, PortClosed, NoEffect, First, Late, NotYours, Empty}
+use Rattle.wx_machine.specs.declared.entries.Answer.TheVariants.{Entered, Channel as OnChannel, Request as OnRequest, Event as Told, Done, Gone, BadTarget, Forbidden, NoReceiver, Posted, PortClosed, NoEffect, First, Late, NotYours, Empty, Text as HasText, NoPermission, BadHostName, HostNotFound, HostForbidden, End as NoMore, Passed, Ignored, Already}
+use Rattle.wx_machine.specs.declared.entries.Reason.TheVariants as reason
 use Rattle.wx_machine.specs.declared.entries.Entry.{Entry}
-use Rattle.wx_machine.specs.Channels.{closed_at}
+use Rattle.wx_machine.specs.Closing.{closed_at}
 use Rattle.wx_machine.specs.Answers.{made_of}
 
 abbrev pub by : ℕ → Call → Who × Call
@@ -220,3 +221,69 @@ OwnFlagsServeOwnCalls =
     answers_to no_manifests
     (by 0 (a_page (codes "/p")) ∷ by 0 listen_connect ∷ by 1 (Enter (Page id_b (codes "/q"))) ∷ by 1 connect_to_a ∷ [])
     ≡ entered 0 ∷ Done ∷ entered 1 ∷ NoReceiver ∷ []
+
+abbrev pub by_host : ℕ → Call → Who × Call
+by_host n call = (ByHost (record { 0 = n }), call)
+
+-- the extension with this id, which has the permission `nativeMessaging` or lacks it
+abbrev pub installed : List ℕ → Bool → Installed
+installed id native = record { id = id; manifest = record { manifest_version = 3; name = codes "x"; version = codes "1"; native = native; external = None } }
+
+-- extension A may start hosts, extension B may not; host e lets A in, host f no extension
+abbrev pub with_hosts : WorldLists
+with_hosts = record {
+  extensions = installed id_a true ∷ installed id_b false ∷ [];
+  hosts = record { name = codes "e"; path = codes "/bin/e"; origins = (codes "chrome-extension://" ++ (id_a ++ codes "/")) ∷ [] } ∷ record { name = codes "f"; path = codes "/bin/f"; origins = [] } ∷ [];
+}
+
+abbrev pub text_at : ℕ → Answer
+text_at e = HasText (record { 0 = e })
+
+-- a host ends, and its channel with it; a host that ended takes nothing more
+abbrev pub HostEndsItsChannel : Type 0
+HostEndsItsChannel =
+    answers_to with_hosts
+    (by 0 (a_page (codes "/p")) ∷ by 0 (ConnectNative (codes "e")) ∷ by_host 0 HostTake ∷ by_host 0 (HostEnded (reason.TooLong 1869768803)) ∷ by 0 Take
+    ∷ by 0 (post 0 (codes "1")) ∷ by_host 0 HostTake ∷ by_host 0 (HostEnded reason.Exited) ∷ by_host 0 (HostSaid (codes "2")) ∷ by 0 Take ∷ by 0 Leave ∷ [])
+    ≡ entered 0 ∷ OnChannel (channel 0) ∷ Empty ∷ Done ∷ told 3 (Disconnected (channel 0))
+    ∷ PortClosed ∷ NoMore ∷ Already ∷ PortClosed ∷ Empty ∷ Done ∷ []
+
+-- a host's first message replies to its request, and a second one is ignored
+abbrev pub HostReplies : Type 0
+HostReplies =
+    answers_to with_hosts
+    (by 0 (a_page (codes "/p")) ∷ by 0 (SendNative (codes "e") (codes "0")) ∷ by_host 0 HostTake ∷ by_host 0 (HostSaid (codes "1")) ∷ by 0 Take
+    ∷ by_host 0 HostTake ∷ by 0 Leave ∷ by_host 0 (HostSaid (codes "2")) ∷ by_host 0 (HostEnded reason.Exited) ∷ [])
+    ≡ entered 0 ∷ OnRequest (request 0) ∷ text_at 1 ∷ Passed ∷ told 3 (Replied (request 0))
+    ∷ NoMore ∷ Done ∷ Ignored ∷ Done ∷ []
+
+-- a host that does not start settles its request without a reply
+abbrev pub HostFailsToStart : Type 0
+HostFailsToStart =
+    answers_to with_hosts
+    (by 0 (a_page (codes "/p")) ∷ by 0 (SendNative (codes "e") (codes "0")) ∷ by_host 0 (HostEnded reason.StartFailed) ∷ by 0 Take ∷ by 0 Leave ∷ [])
+    ≡ entered 0 ∷ OnRequest (request 0) ∷ Done ∷ told 2 (Closed (request 0)) ∷ Done ∷ []
+
+-- two hosts of one name have channels and texts of their own; what was posted on a closed channel is taken before the end
+abbrev pub HostsTakeTheirOwn : Type 0
+HostsTakeTheirOwn =
+    answers_to with_hosts
+    (by 0 (a_page (codes "/p")) ∷ by 0 (ConnectNative (codes "e")) ∷ by 0 (ConnectNative (codes "e"))
+    ∷ by 0 (post 0 (codes "1")) ∷ by 0 (post 1 (codes "2")) ∷ by 0 (post 0 (codes "3")) ∷ by_host 1 HostTake ∷ by_host 1 HostTake
+    ∷ by_host 1 (HostSaid (codes "4")) ∷ by 0 Take ∷ by 0 (Disconnect (channel 0)) ∷ by_host 0 HostTake ∷ by_host 0 (HostSaid (codes "5")) ∷ by_host 0 HostTake ∷ by_host 0 HostTake
+    ∷ by_host 0 (HostEnded reason.Closed) ∷ by 0 Take ∷ [])
+    ≡ entered 0 ∷ OnChannel (channel 0) ∷ OnChannel (channel 1)
+    ∷ Posted ∷ Posted ∷ Posted ∷ text_at 4 ∷ Empty
+    ∷ Passed ∷ told 8 (Message (channel 1)) ∷ Done ∷ text_at 3 ∷ PortClosed ∷ text_at 5 ∷ NoMore
+    ∷ Done ∷ Empty ∷ []
+
+-- who may start a host: the tests in their order
+abbrev pub NativeGateInOrder : Type 0
+NativeGateInOrder =
+    answers_to with_hosts
+    (by 0 (Enter (Web (record { 0 = 7 }) (record { 0 = 0 }) (codes "https://a.b/"))) ∷ by 0 (ConnectNative (codes "e"))
+    ∷ by 1 (Enter (Page id_b (codes "/q"))) ∷ by 1 (ConnectNative (codes ".e")) ∷ by 2 (a_page (codes "/p")) ∷ by 2 (ConnectNative (codes ".e"))
+    ∷ by 2 (ConnectNative (codes "g")) ∷ by 2 (ConnectNative (codes "f")) ∷ by 2 (ConnectNative (codes "e")) ∷ by 2 Leave ∷ by 2 (ConnectNative (codes "e")) ∷ [])
+    ≡ entered 0 ∷ BadTarget
+    ∷ entered 1 ∷ NoPermission ∷ entered 2 ∷ BadHostName
+    ∷ HostNotFound ∷ HostForbidden ∷ OnChannel (channel 0) ∷ Done ∷ Gone ∷ []

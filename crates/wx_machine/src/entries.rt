@@ -1,16 +1,42 @@
 use wx_context::{Context, Listens, Target};
 use wx_external::Rule;
-use wx_id::{ChannelNo, ContextNo, Event, RequestNo, Utf8Text};
-use wx_json::JsonText;
+use wx_id::{ChannelNo, ContextNo, EntryNo, Event, HostNo, RequestNo, Utf8Text};
+use wx_json::{JsonKind, JsonText};
 
 /// The longest text that is passed on, in bytes.
 pub const LONGEST: u64 = 67_108_864;
+
+/// The longest text that a native host may write, in bytes (Chrome's "Native messaging").
+pub const LONGEST_SAID: u64 = 1_048_576;
 
 /// Who makes a call.
 #[derive(Clone, Copy, Debug, PartialEq, Eq)]
 pub enum Who {
     /// The context with this number.
     Context(ContextNo),
+    /// The native host with this number.
+    Host(HostNo),
+}
+
+/// Why a native host ended.
+#[derive(Clone, Copy, Debug, PartialEq, Eq)]
+pub enum Reason {
+    /// Its program could not be started.
+    StartFailed,
+    /// What it writes could not be read.
+    ReadFailed,
+    /// What is for it could not be written.
+    WriteFailed,
+    /// It wrote a frame that announces `len` bytes, which are too many.
+    TooLong { len: u32 },
+    /// It wrote a frame whose text is no JSON text, by the fault at this place of the text.
+    BadJson { place: u64, kind: JsonKind },
+    /// It stopped writing within a frame, `have` bytes behind the frame's beginning.
+    Cut { have: u64 },
+    /// It stopped writing behind a whole frame.
+    Exited,
+    /// Its channel was closed.
+    Closed,
 }
 
 /// A call of the broker.
@@ -36,6 +62,16 @@ pub enum Call {
     Decline(RequestNo),
     /// The caller takes the first event that is pending for it.
     Take,
+    /// The caller starts the native host of that name, on a channel (`runtime.connectNative`).
+    ConnectNative(Utf8Text),
+    /// The caller starts the native host of that name, for one message and its reply (`runtime.sendNativeMessage`).
+    SendNative(Utf8Text, JsonText),
+    /// The host takes the next text for it.
+    HostTake,
+    /// The host wrote a message.
+    HostSaid(JsonText),
+    /// The host ended.
+    HostEnded(Reason),
 }
 
 /// The broker's answer to a call.
@@ -75,8 +111,26 @@ pub enum Answer {
     Late,
     /// The request was not sent to the caller.
     NotYours,
-    /// Nothing is pending.
+    /// Nothing is pending, or no text is there for the host yet.
     Empty,
+    /// The text for the host stands in this entry.
+    Text(EntryNo),
+    /// The caller's extension lacks the permission `nativeMessaging`.
+    NoPermission,
+    /// The name is no host name.
+    BadHostName,
+    /// No host of that name is installed.
+    HostNotFound,
+    /// The host does not list the caller's extension in `allowed_origins`.
+    HostForbidden,
+    /// No text comes for the host any more.
+    End,
+    /// The host's message goes to the opener or the asker.
+    Passed,
+    /// The host's request is settled.
+    Ignored,
+    /// The host ended before.
+    Already,
 }
 
 /// A call, who made it, and its answer.

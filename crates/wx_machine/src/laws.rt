@@ -1,5 +1,5 @@
 //! Worked examples of the definitions, each the contract of a function that does nothing.
-ghost use Rattle.wx_machine.specs.Rows.{OneConnectionOnePost, ConnectReachesNobody, ReceiverDisconnects, ReceiverLeaves, PostsOutliveTheOpener, DisconnectDropsWhatWaits, FirstReplyWins, ClosedWithoutReply, AskerLeaves, EarlyDecline, TabsAndFrames, FromOutside, OwnFlagsServeOwnCalls};
+ghost use Rattle.wx_machine.specs.Rows.{OneConnectionOnePost, ConnectReachesNobody, ReceiverDisconnects, ReceiverLeaves, PostsOutliveTheOpener, DisconnectDropsWhatWaits, FirstReplyWins, ClosedWithoutReply, AskerLeaves, EarlyDecline, TabsAndFrames, FromOutside, OwnFlagsServeOwnCalls, HostEndsItsChannel, HostReplies, HostFailsToStart, HostsTakeTheirOwn, NativeGateInOrder};
 
 /// Two pages, one connection, one posted number.
 pub fn one_connection_one_post()
@@ -60,4 +60,30 @@ pub fn tabs_and_frames()
 pub fn from_outside()
     ensures heard { FromOutside }
     ensures not_heard { OwnFlagsServeOwnCalls }
+{}
+
+/// A host that ends closes its channel, and takes nothing more.
+pub fn host_ends_its_channel()
+    ensures { HostEndsItsChannel }
+{}
+
+/// A host's first message is the reply to its request, and a second one is ignored.
+pub fn host_replies()
+    ensures { HostReplies }
+{}
+
+/// A host that does not start settles its request without a reply.
+pub fn host_fails_to_start()
+    ensures { HostFailsToStart }
+{}
+
+/// Two hosts of one name have channels and texts of their own, and what was posted on a closed channel is taken before
+/// the end.
+pub fn hosts_take_their_own()
+    ensures { HostsTakeTheirOwn }
+{}
+
+/// Who may start a host: the tests in their order.
+pub fn native_gate_in_order()
+    ensures { NativeGateInOrder }
 {}

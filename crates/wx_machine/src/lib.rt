@@ -6,7 +6,9 @@ pub mod laws;
 mod sorts;
 #[cfg(test)]
 mod tests;
+mod work;
 
-pub use entries::{Answer, Call, Entry, LONGEST, Who};
+pub use entries::{Answer, Call, Entry, LONGEST, LONGEST_SAID, Reason, Who};
 pub use sorts::Sort;
-pub use wx_json::JsonText;
+pub use work::Work;
+pub use wx_json::{JsonKind, JsonText};

@@ -7,4 +7,6 @@ fn types_cross_threads(_rt: HostRuntime) {
     crosses_threads::<crate::Answer>();
     crosses_threads::<crate::Entry>();
     crosses_threads::<crate::Sort>();
+    crosses_threads::<crate::Reason>();
+    crosses_threads::<crate::Work>();
 }

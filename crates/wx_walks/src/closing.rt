@@ -3,7 +3,8 @@ ghost use Rattle.std.specs.Prelude.{◌≡◌, ◌&&◌, ◌==◌, ◌∷◌, co
 ghost use Rattle.std.specs.Option.{option_or};
 ghost use Rattle.std.specs.List.{list_any};
 ghost use Rattle.wx_machine.specs.Contexts.{is_live, is_receiver, receivers_of, numbers_of, enters};
-ghost use Rattle.wx_machine.specs.Channels.{opens, channel, has_live, ends_channel, closes, closed_at, is_closed};
+ghost use Rattle.wx_machine.specs.Channels.{opens, channel};
+ghost use Rattle.wx_machine.specs.Closing.{has_live, ends_channel, closes, closed_at, is_closed};
 
 use crate::channels::{end_of, opens};
 use crate::contexts::{brings, came, has_left, is_live, is_receiver, leaves};

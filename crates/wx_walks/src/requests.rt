@@ -3,7 +3,8 @@ ghost use Rattle.std.specs.Prelude.{◌≡◌, ◌&&◌, ◌==◌, ◌∷◌, co
 ghost use Rattle.std.specs.Option.{option_or};
 ghost use Rattle.std.specs.List.{list_any};
 ghost use Rattle.wx_machine.specs.Contexts.{is_by, is_live, is_receiver, receivers_of, numbers_of, enters};
-ghost use Rattle.wx_machine.specs.Requests.{asks, requests, request, is_asker, is_asked, is_decline, has_declined, is_open_to, has_open, ends_request, settled_at, is_settled, settles};
+ghost use Rattle.wx_machine.specs.Requests.{asks, requests, request, is_asker, is_asked};
+ghost use Rattle.wx_machine.specs.Settling.{is_decline, has_declined, is_open_to, has_open, ends_request, settled_at, is_settled, settles};
 
 use crate::closing::is_live_after;
 use crate::contexts::{is_by, is_live, is_receiver};
