@@ -23,7 +23,8 @@ use Rattle.wx_machine.specs.Carried.{text_in, text_carried, text_of}
 use Rattle.wx_machine.specs.Contexts.{is_live}
 use Rattle.wx_machine.specs.Channels.{opens, channels, end_in}
 use Rattle.wx_machine.specs.Requests.{asked_by, asks, requests}
-use Rattle.wx_machine.specs.Events.{on, is_receiving, connected, message, disconnected_on, disconnected, asked, replied, unanswered_on, unanswered, of_channels, of_requests, tells, marked, delivered, queued, is_waiting, pending, first}
+use Rattle.wx_machine.specs.Events.{on, is_receiving, connected, message, disconnected_on, disconnected, asked, replied, unanswered_on, unanswered, of_channels, of_requests, tells, marked, delivered, queued, is_waiting, pending}
+use Rattle.wx_machine.specs.Each.{first}
 use Rattle.wx_endpoint.specs.Performed.{CarriesText}
 
 -- ---- texts stay

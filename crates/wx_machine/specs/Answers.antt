@@ -2,6 +2,7 @@
 use Rattle.std.specs.Prelude.{◌≡◌, ℕ, length, List, [], ◌∷◌, Bool, true, false, not, ◌&&◌, ◌||◌, cond, Option, Some, None, IsTrue, reverse, nat_lt, nat_le, ◌==◌}
 use Rattle.wx_id.specs.declared.numbers.ContextNo.{ContextNo}
 use Rattle.wx_id.specs.declared.numbers.HostNo.{HostNo}
+use Rattle.wx_id.specs.declared.numbers.EntryNo.{EntryNo}
 use Rattle.wx_id.specs.declared.events.Event.{Event}
 use Rattle.wx_id.specs.declared.events.End.{End}
 use Rattle.wx_id.specs.declared.events.End.TheVariants.{Neither}
@@ -30,9 +31,9 @@ use Rattle.wx_machine.specs.declared.work.Work.TheVariants.{Channel as ForChanne
 use Rattle.wx_machine.specs.Hosts.{hosts, work_of}
 use Rattle.wx_machine.specs.Closing.{is_closed}
 use Rattle.wx_machine.specs.Settling.{has_declined, is_settled}
-use Rattle.wx_machine.specs.Texts.{has_ended, texts_left, is_over}
-use Rattle.wx_machine.specs.Events.{pending, first}
-use Rattle.wx_machine.specs.Each.{EachAfter}
+use Rattle.wx_machine.specs.Texts.{has_ended, next_text, is_over, knows_end}
+use Rattle.wx_machine.specs.Events.{pending}
+use Rattle.wx_machine.specs.Each.{EachAfter, first}
 
 -- whether a caller may reach the target; one that never came in may not
 abbrev pub gate_for : WorldLists → Option Context → Target → Verdict
@@ -105,10 +106,10 @@ answer_to world past c (SendNative name text) =
     where_native (native_gate_for world (context_of past c) name) (where_short text (OnRequest (record { 0 = length (requests past) })))
 answer_to world past c _ = Gone
 
--- the first text that is left for a host, or else that none comes any more, or that none is there yet
-abbrev pub text_or_end : List ℕ → Bool → Answer
-text_or_end (n ∷ ns) over = HasText (record { 0 = n })
-text_or_end [] over = cond over NoMore Empty
+-- the next text for a host, or else that none comes any more, or that none is there yet
+abbrev pub text_or_end : Option EntryNo → Bool → Answer
+text_or_end (Some n) over = HasText n
+text_or_end None over = cond over NoMore Empty
 
 -- what a host that says something is answered, by what it works for
 abbrev pub said_for : List Entry → Option Work → Answer
@@ -118,10 +119,20 @@ said_for past (Some (ForRequest r)) = cond (is_settled past r.0) Ignored Passed
 
 -- what a host is answered
 abbrev pub answer_to_host : List Entry → HostNo → Call → Answer
-answer_to_host past h HostTake = cond (has_ended past h) NoMore (text_or_end (texts_left past h) (is_over past (work_of past h)))
+answer_to_host past h HostTake = text_or_end (next_text past h) (has_ended past h || is_over past (work_of past h))
 answer_to_host past h (HostSaid text) = said_for past (work_of past h)
 answer_to_host past h (HostEnded reason) = cond (has_ended past h) Already Done
 answer_to_host past h _ = Gone
+
+-- the answer tells a host a text, or for the first time that none comes any more
+abbrev pub is_news : Answer → Bool → Bool
+is_news (HasText n) knows = true
+is_news NoMore knows = not knows
+is_news _ knows = false
+
+-- a take of host h, which did not end, would tell it something new
+abbrev pub is_host_ready : List Entry → HostNo → Bool
+is_host_ready past h = not (has_ended past h) && is_news (answer_to_host past h HostTake) (knows_end past h)
 
 -- who enters need not live; every other call of one who does not is answered `Gone`
 abbrev pub if_live : Call → Bool → Answer → Answer

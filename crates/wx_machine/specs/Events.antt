@@ -22,6 +22,7 @@ use Rattle.wx_machine.specs.declared.work.Work.TheVariants.{Channel as ForChanne
 use Rattle.wx_machine.specs.Hosts.{work_of}
 use Rattle.wx_machine.specs.Closing.{closes}
 use Rattle.wx_machine.specs.Settling.{settles}
+use Rattle.wx_machine.specs.Each.{first}
 
 abbrev pub is_receiving : End → Bool
 is_receiving Receiver = true
@@ -184,10 +185,6 @@ is_waiting past c event = not (list_any (λ t. same_event t event) (taken past c
 -- what is pending for context c, in the order in which it was delivered
 abbrev pub pending : List Entry → ContextNo → List Event
 pending past c = filter (is_waiting past c) (queued past c)
-
-abbrev pub first : List Event → Option Event
-first [] = None
-first (event ∷ events) = Some event
 
 -- an event is pending for context c, which lives
 abbrev pub has_pending : List Entry → ContextNo → Bool

@@ -1,7 +1,8 @@
 -- The texts for a native host, which of them it took, and whether it ended.
-use Rattle.std.specs.Prelude.{ℕ, length, List, [], ◌∷◌, ◌++◌, Bool, true, false, not, ◌&&◌, ◌||◌, cond, Option, Some, None, filter, ◌==◌}
+use Rattle.std.specs.Prelude.{length, List, [], ◌∷◌, ◌++◌, Bool, true, false, not, ◌&&◌, ◌||◌, cond, Option, Some, None, filter, ◌==◌}
 use Rattle.std.specs.List.{list_any}
 use Rattle.wx_id.specs.declared.numbers.HostNo.{HostNo}
+use Rattle.wx_id.specs.declared.numbers.EntryNo.{EntryNo}
 use Rattle.wx_machine.specs.declared.entries.Who.{Who}
 use Rattle.wx_machine.specs.declared.entries.Who.TheVariants.{Context as ByContext}
 use Rattle.wx_machine.specs.declared.entries.Call.{Call}
@@ -14,6 +15,7 @@ use Rattle.wx_machine.specs.declared.work.Work.TheVariants.{Channel as ForChanne
 use Rattle.wx_machine.specs.Hosts.{hosts, work_of, is_for_channel, is_by_host}
 use Rattle.wx_machine.specs.Closing.{is_closed}
 use Rattle.wx_machine.specs.Settling.{is_settled}
+use Rattle.wx_machine.specs.Each.{first}
 
 abbrev pub is_host_end : Call → Bool
 is_host_end (HostEnded reason) = true
@@ -30,27 +32,31 @@ is_text_for past (ByContext c) (Post k text) Posted h = is_for_channel k.0 (work
 is_text_for past (ByContext c) (SendNative name text) (OnRequest r) h = length (hosts past) == h.0
 is_text_for past _ _ _ h = false
 
--- the numbers of the entries with the texts for host h
-abbrev pub texts_for : List Entry → HostNo → List ℕ
+-- the entries with the texts for host h
+abbrev pub texts_for : List Entry → HostNo → List EntryNo
 texts_for [] h = []
-texts_for (e ∷ past) h = texts_for past h ++ cond (is_text_for past e.who e.call e.answer h) (length past ∷ []) []
+texts_for (e ∷ past) h = texts_for past h ++ cond (is_text_for past e.who e.call e.answer h) (record { 0 = length past } ∷ []) []
 
-abbrev pub text_taken : Call → Answer → Bool → List ℕ
-text_taken HostTake (HasText n) true = n.0 ∷ []
+abbrev pub text_taken : Call → Answer → Bool → List EntryNo
+text_taken HostTake (HasText n) true = n ∷ []
 text_taken _ _ _ = []
 
--- those that it took
-abbrev pub texts_taken : List Entry → HostNo → List ℕ
+-- those whose texts it took
+abbrev pub texts_taken : List Entry → HostNo → List EntryNo
 texts_taken [] h = []
 texts_taken (e ∷ past) h = texts_taken past h ++ text_taken e.call e.answer (is_by_host e.who h)
 
--- host h did not take the text in that entry
-abbrev pub is_left : List Entry → HostNo → ℕ → Bool
-is_left past h n = not (list_any (λ t. t == n) (texts_taken past h))
+-- host h took the text in that entry
+abbrev pub has_taken : List Entry → HostNo → EntryNo → Bool
+has_taken past h n = list_any (λ t. t.0 == n.0) (texts_taken past h)
 
--- those that it did not take
-abbrev pub texts_left : List Entry → HostNo → List ℕ
-texts_left past h = filter (is_left past h) (texts_for past h)
+-- those whose texts it did not take
+abbrev pub texts_left : List Entry → HostNo → List EntryNo
+texts_left past h = filter (λ n. not (has_taken past h n)) (texts_for past h)
+
+-- the entry with the next text for host h, unless it ended
+abbrev pub next_text : List Entry → HostNo → Option EntryNo
+next_text past h = cond (has_ended past h) None (first (texts_left past h))
 
 -- no text comes any more for what a host works for
 abbrev pub is_over : List Entry → Option Work → Bool

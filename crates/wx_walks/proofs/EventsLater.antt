@@ -13,7 +13,8 @@ use Rattle.wx_machine.specs.declared.entries.Entry.{Entry}
 use Rattle.wx_machine.specs.Contexts.{is_by}
 use Rattle.wx_machine.specs.Channels.{opens, channels}
 use Rattle.wx_machine.specs.Requests.{asks, requests}
-use Rattle.wx_machine.specs.Events.{connected, message, disconnected, of_channels, asked, replied, unanswered, of_requests, delivered, queued, taken, event_in, marked, first}
+use Rattle.wx_machine.specs.Events.{connected, message, disconnected, of_channels, asked, replied, unanswered, of_requests, delivered, queued, taken, event_in, marked}
+use Rattle.wx_machine.specs.Each.{first}
 use Rattle.wx_walks.proofs.ClosingLater.{any_append}
 
 -- what `was_taken` says of one more entry

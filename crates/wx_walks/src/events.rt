@@ -5,7 +5,8 @@ ghost use Rattle.std.specs.List.{list_any, range_with_len};
 ghost use Rattle.wx_machine.specs.Channels.{channels, channel, opens, end_in};
 ghost use Rattle.wx_machine.specs.Requests.{requests, asks};
 ghost use Rattle.wx_machine.specs.Contexts.{is_by};
-ghost use Rattle.wx_machine.specs.Events.{connected, message, disconnected_on, disconnected, asked, replied, unanswered_on, unanswered, of_channels, of_requests, delivered, taken, goes_to, is_dropped, drops_by, is_of, is_waiting, same_event, same_kind, event_in, pending, first, marked, on, is_receiving};
+ghost use Rattle.wx_machine.specs.Events.{connected, message, disconnected_on, disconnected, asked, replied, unanswered_on, unanswered, of_channels, of_requests, delivered, taken, goes_to, is_dropped, drops_by, is_of, is_waiting, same_event, same_kind, event_in, pending, marked, on, is_receiving};
+ghost use Rattle.wx_machine.specs.Each.{first};
 
 use crate::channels::{end_at_opening, end_of};
 use crate::closing::closes;
