@@ -11,11 +11,15 @@ use Rattle.wx_context.specs.declared.contexts.Listens.{Listens}
 use Rattle.wx_external.specs.declared.gates.Rule.{Rule}
 use Rattle.wx_external.specs.declared.gates.Rule.TheVariants.{Id, Url}
 use Rattle.wx_machine.specs.declared.entries.Who.{Who}
-use Rattle.wx_machine.specs.declared.entries.Who.TheVariants.{Context as ByContext}
+use Rattle.wx_machine.specs.declared.entries.Who.TheVariants.{Context as ByContext, Host as ByHost}
 use Rattle.wx_machine.specs.declared.entries.Call.{Call}
-use Rattle.wx_machine.specs.declared.entries.Call.TheVariants.{Enter, Listen, Leave, Connect, Post, Disconnect, Send, Reply, Decline, Take}
+use Rattle.wx_machine.specs.declared.entries.Call.TheVariants.{Enter, Listen, Leave, Connect, Post, Disconnect, Send, Reply, Decline, Take, ConnectNative, SendNative, HostTake, HostSaid, HostEnded}
+use Rattle.wx_json.specs.declared.JsonKind.{JsonKind}
+use Rattle.wx_json.specs.declared.JsonKind.TheVariants.{Syntax, Utf8, TooDeep, Ends}
+use Rattle.wx_machine.specs.declared.entries.Reason.{Reason}
+use Rattle.wx_machine.specs.declared.entries.Reason.TheVariants as reason
 use Rattle.wx_machine.specs.declared.entries.Answer.{Answer}
-use Rattle.wx_machine.specs.declared.entries.Answer.TheVariants.{Entered, Channel as OnChannel, Request as OnRequest, Event as Told, Done, Gone, BadTarget, Forbidden, NoReceiver, Posted, NoPort, PortClosed, TooLong, NoEffect, First, Late, NotYours, Empty}
+use Rattle.wx_machine.specs.declared.entries.Answer.TheVariants.{Entered, Channel as OnChannel, Request as OnRequest, Event as Told, Done, Gone, BadTarget, Forbidden, NoReceiver, Posted, NoPort, PortClosed, TooLong, NoEffect, First, Late, NotYours, Empty, Text as HasText, NoPermission, BadHostName, HostNotFound, HostForbidden, End as NoMore, Passed, Ignored, Already}
 use Rattle.wx_machine.specs.declared.entries.Entry.{Entry}
 
 infixr 6 ◌␣◌
@@ -33,6 +37,7 @@ numbered word n = word ␣ decimal n
 
 abbrev pub who_text : Who → List ℕ
 who_text (ByContext c) = codes "c" ++ decimal c.0
+who_text (ByHost h) = codes "h" ++ decimal h.0
 
 -- a frame, or any
 abbrev pub frame_text : Option FrameId → List ℕ
@@ -56,6 +61,22 @@ flag false letter = codes "-"
 abbrev pub listens_text : Listens → List ℕ
 listens_text l = flag l.connect (codes "c") ++ (flag l.message (codes "m") ++ (flag l.external_connect (codes "C") ++ flag l.external_message (codes "M")))
 
+abbrev pub json_kind_text : JsonKind → List ℕ
+json_kind_text Syntax = codes "syntax"
+json_kind_text Utf8 = codes "utf8"
+json_kind_text TooDeep = codes "too_deep"
+json_kind_text Ends = codes "ends"
+
+abbrev pub reason_text : Reason → List ℕ
+reason_text reason.StartFailed = codes "start_failed"
+reason_text reason.ReadFailed = codes "read_failed"
+reason_text reason.WriteFailed = codes "write_failed"
+reason_text (reason.TooLong len) = numbered (codes "too_long") len
+reason_text (reason.BadJson place kind) = codes "bad_json" ␣ decimal place ␣ json_kind_text kind
+reason_text (reason.Cut have) = numbered (codes "cut") have
+reason_text reason.Exited = codes "exited"
+reason_text reason.Closed = codes "closed"
+
 abbrev pub call_text : Call → List ℕ
 call_text (Enter x) = codes "enter" ␣ context_text x
 call_text (Listen l) = codes "listen" ␣ listens_text l
@@ -67,6 +88,20 @@ call_text (Send target text) = codes "send" ␣ target_text target ␣ sized tex
 call_text (Reply r text) = codes "reply" ␣ decimal r.0 ␣ sized text
 call_text (Decline r) = numbered (codes "decline") r.0
 call_text Take = codes "take"
+call_text (ConnectNative name) = codes "connect_native" ␣ sized name
+call_text (SendNative name text) = codes "send_native" ␣ sized name ␣ sized text
+call_text HostTake = codes "host_take"
+call_text (HostSaid text) = codes "host_said" ␣ sized text
+call_text (HostEnded reason) = codes "host_ended" ␣ reason_text reason
+
+-- a call of a context for a native host, or of the host
+abbrev pub is_native : Call → Bool
+is_native (ConnectNative name) = true
+is_native (SendNative name text) = true
+is_native HostTake = true
+is_native (HostSaid text) = true
+is_native (HostEnded reason) = true
+is_native _ = false
 
 -- an event: its kind, its channel or request, and the entry that delivered it
 abbrev pub event_text : EventKind → ℕ → List ℕ
@@ -100,6 +135,15 @@ answer_text First = codes "first"
 answer_text Late = codes "late"
 answer_text NotYours = codes "not_yours"
 answer_text Empty = codes "empty"
+answer_text (HasText e) = numbered (codes "text") e.0
+answer_text NoPermission = codes "no_permission"
+answer_text BadHostName = codes "bad_host_name"
+answer_text HostNotFound = codes "host_not_found"
+answer_text HostForbidden = codes "host_forbidden"
+answer_text NoMore = codes "end"
+answer_text Passed = codes "passed"
+answer_text Ignored = codes "ignored"
+answer_text Already = codes "already"
 
 -- an entry's line: who, the call, and the answer behind an arrow
 abbrev pub entry_text : Entry → List ℕ

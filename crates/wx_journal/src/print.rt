@@ -1,11 +1,11 @@
-ghost use Rattle.std.specs.Prelude.{◌≡◌, ◌++◌, OnOk, IfOk, decimal, codes};
-ghost use Rattle.wx_journal.specs.Text.{◌␣◌, event_text, sized, numbered, who_text, rule_text, answer_text, listens_text, frame_text, target_text, context_text, flag, call_text, entry_text, journal_text};
+ghost use Rattle.std.specs.Prelude.{◌≡◌, ◌++◌, IsTrue, OnOk, IfOk, decimal, codes};
+ghost use Rattle.wx_journal.specs.Text.{◌␣◌, event_text, sized, numbered, who_text, rule_text, answer_text, listens_text, frame_text, target_text, context_text, flag, json_kind_text, reason_text, is_native, call_text, entry_text, journal_text};
 
 use std::alloc::{AllocError, Global};
 use wx_context::{Context, Listens, Target, WebUrl};
 use wx_external::Rule;
 use wx_id::{Event, EventKind, FrameId, TabId};
-use wx_machine::{Answer, Call, Entry, Who};
+use wx_machine::{Answer, Call, Entry, JsonKind, Reason, Who};
 
 fn put(out: &mut Vec<u8>, bytes: &[u8]) -> Result<(), AllocError>
     ensures { OnOk result (out.new.items ≡ out.old.items ++ bytes.now) }
@@ -61,6 +61,10 @@ fn put_who(alloc: Global, out: &mut Vec<u8>, who: Who) -> Result<(), AllocError>
         Who::Context(c) => {
             put(out, b"c")?;
             put_number(alloc, out, c.0)
+        }
+        Who::Host(h) => {
+            put(out, b"h")?;
+            put_number(alloc, out, h.0)
         }
     }
 }
@@ -123,6 +127,15 @@ fn put_answer(alloc: Global, out: &mut Vec<u8>, answer: Answer) -> Result<(), Al
         Answer::Late => put(out, b"late"),
         Answer::NotYours => put(out, b"not_yours"),
         Answer::Empty => put(out, b"empty"),
+        Answer::Text(e) => put_numbered(alloc, out, b"text", e.0),
+        Answer::NoPermission => put(out, b"no_permission"),
+        Answer::BadHostName => put(out, b"bad_host_name"),
+        Answer::HostNotFound => put(out, b"host_not_found"),
+        Answer::HostForbidden => put(out, b"host_forbidden"),
+        Answer::End => put(out, b"end"),
+        Answer::Passed => put(out, b"passed"),
+        Answer::Ignored => put(out, b"ignored"),
+        Answer::Already => put(out, b"already"),
     }
 }
 
@@ -238,6 +251,73 @@ fn put_on(
     put_spaced(alloc, out, text)
 }
 
+/// A word and a text.
+fn put_word(
+    alloc: Global,
+    out: &mut Vec<u8>,
+    word: &[u8],
+    text: &[u8],
+) -> Result<(), AllocError>
+    ensures { OnOk result (out.new.items ≡ out.old.items ++ (word.now ␣ sized text.now)) }
+{
+    put(out, word)?;
+    put_spaced(alloc, out, text)
+}
+
+fn json_kind_text(kind: JsonKind) -> &'static [u8]
+    ensures { result.now ≡ json_kind_text kind }
+{
+    match kind {
+        JsonKind::Syntax => b"syntax",
+        JsonKind::Utf8 => b"utf8",
+        JsonKind::TooDeep => b"too_deep",
+        JsonKind::Ends => b"ends",
+    }
+}
+
+/// Why a host ended.
+fn put_reason(alloc: Global, out: &mut Vec<u8>, reason: Reason) -> Result<(), AllocError>
+    ensures { OnOk result (out.new.items ≡ out.old.items ++ reason_text reason) }
+{
+    match reason {
+        Reason::StartFailed => put(out, b"start_failed"),
+        Reason::ReadFailed => put(out, b"read_failed"),
+        Reason::WriteFailed => put(out, b"write_failed"),
+        Reason::TooLong { len } => put_numbered(alloc, out, b"too_long", len as u64),
+        Reason::BadJson { place, kind } => {
+            put_numbered(alloc, out, b"bad_json", place)?;
+            put(out, b" ")?;
+            put(out, json_kind_text(kind))
+        }
+        Reason::Cut { have } => put_numbered(alloc, out, b"cut", have),
+        Reason::Exited => put(out, b"exited"),
+        Reason::Closed => put(out, b"closed"),
+    }
+}
+
+/// A call of a context for a native host, or of the host.
+fn put_native(alloc: Global, out: &mut Vec<u8>, call: &Call) -> Result<(), AllocError>
+    requires { IsTrue (is_native call.now) }
+    ensures { OnOk result (out.new.items ≡ out.old.items ++ call_text call.now) }
+{
+    match call {
+        Call::ConnectNative(name) => {
+            put_word(alloc, out, b"connect_native", name.as_str().as_bytes())
+        }
+        Call::SendNative(name, text) => {
+            put_word(alloc, out, b"send_native", name.as_str().as_bytes())?;
+            put_spaced(alloc, out, text.bytes())
+        }
+        Call::HostTake => put(out, b"host_take"),
+        Call::HostSaid(text) => put_word(alloc, out, b"host_said", text.bytes()),
+        Call::HostEnded(reason) => {
+            put(out, b"host_ended ")?;
+            put_reason(alloc, out, *reason)
+        }
+        _ => unreachable!(),
+    }
+}
+
 fn put_call(alloc: Global, out: &mut Vec<u8>, call: &Call) -> Result<(), AllocError>
     ensures { OnOk result (out.new.items ≡ out.old.items ++ call_text call.now) }
 {
@@ -260,6 +340,11 @@ fn put_call(alloc: Global, out: &mut Vec<u8>, call: &Call) -> Result<(), AllocEr
         Call::Reply(r, text) => put_on(alloc, out, b"reply", r.0, text.bytes()),
         Call::Decline(r) => put_numbered(alloc, out, b"decline", r.0),
         Call::Take => put(out, b"take"),
+        Call::ConnectNative(_)
+        | Call::SendNative(_, _)
+        | Call::HostTake
+        | Call::HostSaid(_)
+        | Call::HostEnded(_) => put_native(alloc, out, call),
     }
 }
 
