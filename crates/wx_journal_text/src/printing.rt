@@ -1,5 +1,5 @@
 ghost use Rattle.std.specs.Prelude.{◌≡◌, ◌++◌, IsTrue, OnOk, IfOk, decimal, codes};
-ghost use Rattle.wx_journal.specs.Text.{◌␣◌, event_text, sized, numbered, who_text, rule_text, answer_text, listens_text, frame_text, target_text, context_text, flag, json_kind_text, reason_text, is_native, call_text, entry_text, journal_text};
+ghost use Rattle.wx_journal_text.specs.Text.{◌␣◌, event_text, sized, numbered, who_text, rule_text, answer_text, listens_text, frame_text, target_text, context_text, flag, json_kind_text, reason_text, is_native, call_text, entry_text, journal_text};
 
 use std::alloc::{AllocError, Global};
 use wx_context::{Context, Listens, Target, WebUrl};
@@ -252,12 +252,7 @@ fn put_on(
 }
 
 /// A word and a text.
-fn put_word(
-    alloc: Global,
-    out: &mut Vec<u8>,
-    word: &[u8],
-    text: &[u8],
-) -> Result<(), AllocError>
+fn put_word(alloc: Global, out: &mut Vec<u8>, word: &[u8], text: &[u8]) -> Result<(), AllocError>
     ensures { OnOk result (out.new.items ≡ out.old.items ++ (word.now ␣ sized text.now)) }
 {
     put(out, word)?;

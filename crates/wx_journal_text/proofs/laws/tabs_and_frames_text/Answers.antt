@@ -1,6 +1,6 @@
 use Rattle.std.proofs.Common.{refl}
 use Rattle.std.specs.Fmt.{digits}
-use Rattle.wx_journal.proofs.laws.one_connection_one_post_text.Goals as goal
+use Rattle.wx_journal_text.proofs.laws.tabs_and_frames_text.Goals as goal
 
 pub returns : goal.returns
 unfolding digits

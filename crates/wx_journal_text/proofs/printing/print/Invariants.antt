@@ -1,7 +1,7 @@
 use Rattle.std.proofs.Common.{◌≡◌, ◌++◌, take}
 use Rattle.std.specs.Prelude.{codes, flat_map}
-use Rattle.wx_journal.specs.Text.{entry_text}
-use Rattle.wx_journal.proofs.print.print.Given as goal
+use Rattle.wx_journal_text.specs.Text.{entry_text}
+use Rattle.wx_journal_text.proofs.printing.print.Given as goal
 
 -- the lines of the entries so far
 abbrev pub invariant-loop-e : goal.invariant-loop-e
