@@ -1,9 +1,7 @@
-//! The journal: every call with its answer, and its text.
+//! The journal: every call with its answer.
 #![tactic(auto)]
 
-pub mod laws;
 mod list;
-mod print;
 #[cfg(test)]
 mod tests;
 

@@ -1,12 +1,12 @@
 ghost use Rattle.std.specs.Prelude.{◌≡◌, ◌+◌, ◌<◌, ◌≤◌, [], ◌∷◌, ◌++◌, length, IfOk, IfErr, OnOk, OnErr, IsOk, slice_get, option_copied, ◌==◌};
 ghost use Rattle.std.specs.Option.{option_and_then};
 ghost use Rattle.wx_machine.specs.Carried.{text_in};
-ghost use Rattle.wx_journal.specs.Text.{journal_text};
+ghost use Rattle.wx_journal_text.specs.Text.{journal_text};
 
-use crate::print::print;
 use std::alloc::Global;
 use std::marker::Model;
 use wx_id::{EntryNo, NoMemory};
+use wx_journal_text::print;
 use wx_machine::{Call, Entry, JsonText};
 
 /// A list of entries. An entry's number is its place, from 0. Contracts see the entries, oldest first, and
@@ -30,7 +30,11 @@ fn text_of_call(call: &Call) -> Option<&JsonText>
     ensures { option_copied result ≡ text_in call.now }
 {
     match call {
-        Call::Post(_, text) | Call::Send(_, text) | Call::Reply(_, text) => Some(text),
+        Call::Post(_, text)
+        | Call::Send(_, text)
+        | Call::Reply(_, text)
+        | Call::SendNative(_, text)
+        | Call::HostSaid(text) => Some(text),
         _ => None,
     }
 }

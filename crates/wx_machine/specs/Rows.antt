@@ -239,21 +239,32 @@ with_hosts = record {
 abbrev pub text_at : ℕ → Answer
 text_at e = HasText (record { 0 = e })
 
--- a host ends, and its channel with it; a host that ended takes nothing more
-abbrev pub HostEndsItsChannel : Type 0
-HostEndsItsChannel =
+abbrev pub host_ends_calls : List (Who × Call)
+host_ends_calls =
+    by 0 (a_page (codes "/p")) ∷ by 0 (ConnectNative (codes "e")) ∷ by_host 0 (HostEnded (reason.TooLong 1869768803)) ∷ by 0 Take ∷ by 0 Leave ∷ []
+
+-- a host ends, and its channel with it
+abbrev pub HostEnds : Type 0
+HostEnds = answers_to with_hosts host_ends_calls ≡ entered 0 ∷ OnChannel (channel 0) ∷ Done ∷ told 2 (Disconnected (channel 0)) ∷ Done ∷ []
+
+-- a host that ended takes nothing more, and its channel is closed
+abbrev pub EndedHostTakesNothing : Type 0
+EndedHostTakesNothing =
     answers_to with_hosts
     (by 0 (a_page (codes "/p")) ∷ by 0 (ConnectNative (codes "e")) ∷ by_host 0 HostTake ∷ by_host 0 (HostEnded (reason.TooLong 1869768803)) ∷ by 0 Take
     ∷ by 0 (post 0 (codes "1")) ∷ by_host 0 HostTake ∷ by_host 0 (HostEnded reason.Exited) ∷ by_host 0 (HostSaid (codes "2")) ∷ by 0 Take ∷ by 0 Leave ∷ [])
     ≡ entered 0 ∷ OnChannel (channel 0) ∷ Empty ∷ Done ∷ told 3 (Disconnected (channel 0))
     ∷ PortClosed ∷ NoMore ∷ Already ∷ PortClosed ∷ Empty ∷ Done ∷ []
 
+abbrev pub host_replies_calls : List (Who × Call)
+host_replies_calls =
+    by 0 (a_page (codes "/p")) ∷ by 0 (SendNative (codes "e") (codes "0")) ∷ by_host 0 HostTake ∷ by_host 0 (HostSaid (codes "1")) ∷ by 0 Take
+    ∷ by_host 0 HostTake ∷ by 0 Leave ∷ by_host 0 (HostSaid (codes "2")) ∷ by_host 0 (HostEnded reason.Exited) ∷ []
+
 -- a host's first message replies to its request, and a second one is ignored
 abbrev pub HostReplies : Type 0
 HostReplies =
-    answers_to with_hosts
-    (by 0 (a_page (codes "/p")) ∷ by 0 (SendNative (codes "e") (codes "0")) ∷ by_host 0 HostTake ∷ by_host 0 (HostSaid (codes "1")) ∷ by 0 Take
-    ∷ by_host 0 HostTake ∷ by 0 Leave ∷ by_host 0 (HostSaid (codes "2")) ∷ by_host 0 (HostEnded reason.Exited) ∷ [])
+    answers_to with_hosts host_replies_calls
     ≡ entered 0 ∷ OnRequest (request 0) ∷ text_at 1 ∷ Passed ∷ told 3 (Replied (request 0))
     ∷ NoMore ∷ Done ∷ Ignored ∷ Done ∷ []
 

@@ -1,5 +1,5 @@
 //! Worked examples of the definitions, each the contract of a function that does nothing.
-ghost use Rattle.wx_machine.specs.Rows.{OneConnectionOnePost, ConnectReachesNobody, ReceiverDisconnects, ReceiverLeaves, PostsOutliveTheOpener, DisconnectDropsWhatWaits, FirstReplyWins, ClosedWithoutReply, AskerLeaves, EarlyDecline, TabsAndFrames, FromOutside, OwnFlagsServeOwnCalls, HostEndsItsChannel, HostReplies, HostFailsToStart, HostsTakeTheirOwn, NativeGateInOrder};
+ghost use Rattle.wx_machine.specs.Rows.{OneConnectionOnePost, ConnectReachesNobody, ReceiverDisconnects, ReceiverLeaves, PostsOutliveTheOpener, DisconnectDropsWhatWaits, FirstReplyWins, ClosedWithoutReply, AskerLeaves, EarlyDecline, TabsAndFrames, FromOutside, OwnFlagsServeOwnCalls, HostEnds, EndedHostTakesNothing, HostReplies, HostFailsToStart, HostsTakeTheirOwn, NativeGateInOrder};
 
 /// Two pages, one connection, one posted number.
 pub fn one_connection_one_post()
@@ -62,9 +62,14 @@ pub fn from_outside()
     ensures not_heard { OwnFlagsServeOwnCalls }
 {}
 
-/// A host that ends closes its channel, and takes nothing more.
-pub fn host_ends_its_channel()
-    ensures { HostEndsItsChannel }
+/// A host that ends closes its channel.
+pub fn host_ends()
+    ensures { HostEnds }
+{}
+
+/// A host that ended takes nothing more.
+pub fn ended_host_takes_nothing()
+    ensures { EndedHostTakesNothing }
 {}
 
 /// A host's first message is the reply to its request, and a second one is ignored.

@@ -2,7 +2,7 @@
 use Rattle.std.specs.Prelude.{◌≡◌, ℕ, suc, ◌<◌, List, [], ◌∷◌, ◌++◌, length, Bool, true, false, decimal, codes}
 use Rattle.wx_json.specs.declared.JsonKind.{JsonKind}
 use Rattle.wx_json.specs.declared.JsonKind.TheVariants as json
-use Rattle.wx_journal.specs.Text.{sized}
+use Rattle.wx_journal_text.specs.Text.{sized}
 use Rattle.wx_native_frame.specs.declared.FrameFault.TheVariants as fault
 use Rattle.wx_native_frame.specs.Frames.{IsTrouble, IsUnderWay}
 use Rattle.wx_native_frame.specs.Splits.{IsSplit}

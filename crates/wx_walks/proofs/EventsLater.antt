@@ -21,12 +21,12 @@ use Rattle.wx_walks.proofs.ClosingLater.{any_append}
 pub taken_more : (q : Event → Bool) (e : Entry) (past : List Entry) (c : ContextNo) → list_any q (taken (e ∷ past) c) ≡ (list_any q (taken past c) || list_any q (event_in e.call e.answer (is_by e.who c)))
 taken_more q e past c = any_append q (taken past c) (event_in e.call e.answer (is_by e.who c))
 
-first-append : (xs ys : List Event) → first (xs ++ ys) ≡ option_or (first xs) (first ys)
+first-append : {X : Type 0} (xs ys : List X) → first (xs ++ ys) ≡ option_or (first xs) (first ys)
 first-append [] ys = refl
 first-append (x ∷ xs) ys = refl
 
 -- the first that passes, of two lists
-pub first_filter : (w : Event → Bool) (xs ys : List Event) → first (filter w (xs ++ ys)) ≡ option_or (first (filter w xs)) (first (filter w ys))
+pub first_filter : {X : Type 0} (w : X → Bool) (xs ys : List X) → first (filter w (xs ++ ys)) ≡ option_or (first (filter w xs)) (first (filter w ys))
 first_filter w xs ys = ap first (filter-append w xs ys) ∙ first-append (filter w xs) (filter w ys)
 
 pub first_events : (w : Event → Bool) (n : ℕ) (xs ys : List EventKind) → first (filter w (map (marked n) (xs ++ ys))) ≡ option_or (first (filter w (map (marked n) xs))) (first (filter w (map (marked n) ys)))
@@ -59,5 +59,5 @@ pub channels_first : (w : Event → Bool) (n : ℕ) (e : Entry) (past : List Ent
 channels_first w n e past c = three_first w n (connected (length (channels past)) (opens past e) c) (message past e.who e.call e.answer c) (disconnected past e e.call c)
 
 -- the same of requests
-pub requests_first : (w : Event → Bool) (n : ℕ) (e : Entry) (past : List Entry) (c : ContextNo) → first (filter w (map (marked n) (of_requests past e c))) ≡ option_or (option_or (first (filter w (map (marked n) (asked (length (requests past)) (asks past e) c)))) (first (filter w (map (marked n) (replied past e.call e.answer c))))) (first (filter w (map (marked n) (unanswered past e e.call c))))
-requests_first w n e past c = three_first w n (asked (length (requests past)) (asks past e) c) (replied past e.call e.answer c) (unanswered past e e.call c)
+pub requests_first : (w : Event → Bool) (n : ℕ) (e : Entry) (past : List Entry) (c : ContextNo) → first (filter w (map (marked n) (of_requests past e c))) ≡ option_or (option_or (first (filter w (map (marked n) (asked (length (requests past)) (asks past e) c)))) (first (filter w (map (marked n) (replied past e.who e.call e.answer c))))) (first (filter w (map (marked n) (unanswered past e e.call c))))
+requests_first w n e past c = three_first w n (asked (length (requests past)) (asks past e) c) (replied past e.who e.call e.answer c) (unanswered past e e.call c)

@@ -12,6 +12,7 @@ pub fn opens(before: &[Entry], e: &Entry) -> bool
 {
     match (&e.who, &e.call, &e.answer) {
         (Who::Context(_), Call::Connect(_, _), Answer::Channel(_)) => true,
+        (Who::Context(_), Call::ConnectNative(_), Answer::Channel(_)) => true,
         _ => false,
     }
 }
@@ -44,6 +45,9 @@ pub fn end_at_opening(before: &[Entry], e: &Entry, c: ContextNo) -> End
             } else {
                 End::Neither
             }
+        }
+        (Who::Context(opener), Call::ConnectNative(_), Answer::Channel(_)) if *opener == c => {
+            End::Opener
         }
         _ => End::Neither,
     }

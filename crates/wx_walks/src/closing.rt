@@ -8,6 +8,7 @@ ghost use Rattle.wx_machine.specs.Closing.{has_live, ends_channel, closes, close
 
 use crate::channels::{end_of, opens};
 use crate::contexts::{brings, came, has_left, is_live, is_receiver, leaves};
+use crate::hosts::{is_for_channel, work_of};
 use wx_context::Target;
 use wx_id::{ChannelNo, ContextNo, End};
 use wx_machine::{Answer, Call, Entry, Sort, Who};
@@ -118,6 +119,7 @@ pub fn ends_channel(before: &[Entry], e: &Entry, k: ChannelNo) -> bool
             let end = end_of(before, k, *c);
             end == End::Opener || (end == End::Receiver && !has_live_receiver(before, e, k))
         }
+        (Who::Host(h), Call::HostEnded(_)) => is_for_channel(work_of(before, *h), k),
         _ => false,
     }
 }

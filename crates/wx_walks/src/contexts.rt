@@ -25,6 +25,7 @@ pub fn is_by(who: Who, c: ContextNo) -> bool
 {
     match who {
         Who::Context(d) => d == c,
+        Who::Host(_) => false,
     }
 }
 

@@ -5,16 +5,17 @@ ghost use Rattle.std.specs.List.{list_any, range_with_len};
 ghost use Rattle.wx_machine.specs.Channels.{channels, channel, opens, end_in};
 ghost use Rattle.wx_machine.specs.Requests.{requests, asks};
 ghost use Rattle.wx_machine.specs.Contexts.{is_by};
-ghost use Rattle.wx_machine.specs.Events.{connected, message, disconnected_on, disconnected, asked, replied, unanswered_on, unanswered, of_channels, of_requests, delivered, taken, goes_to, is_dropped, drops_by, is_of, is_waiting, same_event, same_kind, event_in, pending, marked, on, is_receiving};
+ghost use Rattle.wx_machine.specs.Events.{connected, message, disconnected_on, disconnected, asked, replied, unanswered_on, unanswered, of_channels, of_requests, delivered, taken, goes_to, work_by, said, answered, is_dropped, drops_by, is_of, is_waiting, same_event, same_kind, event_in, pending, marked, on, is_receiving};
 ghost use Rattle.wx_machine.specs.Each.{first};
 
 use crate::channels::{end_at_opening, end_of};
 use crate::closing::closes;
 use crate::contexts::{is_by, is_live};
+use crate::hosts::work_of;
 use crate::requests::{is_asked_at, is_asker, settles};
 use crate::{channels, requests};
 use wx_id::{ChannelNo, ContextNo, End, EntryNo, Event, EventKind, RequestNo};
-use wx_machine::{Answer, Call, Entry, Who};
+use wx_machine::{Answer, Call, Entry, Who, Work};
 
 fn same_kind(a: EventKind, b: EventKind) -> bool
     ensures { result ≡ same_kind a b }
@@ -124,6 +125,7 @@ fn goes_to(before: &[Entry], k: ChannelNo, who: Who, c: ContextNo) -> bool
 {
     let from = match who {
         Who::Context(d) => end_of(before, k, d),
+        Who::Host(_) => End::Receiver,
     };
     match (from, end_of(before, k, c)) {
         (End::Opener, End::Receiver) => is_live(before, c),
@@ -137,6 +139,38 @@ fn is_told_connected(before: &[Entry], e: &Entry, c: ContextNo) -> bool
     ensures { result ≡ is_receiving (end_in (opens (reverse before.now) e.now) c) }
 {
     end_at_opening(before, e, c) == End::Receiver
+}
+
+/// What the caller works for, where it is a host.
+fn work_by(before: &[Entry], who: Who) -> Option<Work>
+    ensures { result ≡ work_by (reverse before.now) who }
+{
+    match who {
+        Who::Host(h) => work_of(before, h),
+        Who::Context(_) => None,
+    }
+}
+
+/// The message that a host says on its channel to context c, if it waits.
+fn waiting_said(
+    entries: &[Entry],
+    i: usize,
+    before: &[Entry],
+    who: Who,
+    c: ContextNo,
+) -> Option<Event>
+    ensures { result ≡ first (filter (is_waiting (reverse entries.now) c) (map (marked i) (said (reverse before.now) who (work_by (reverse before.now) who) c))) }
+{
+    match work_by(before, who) {
+        Some(Work::Channel(k)) => waiting_if(
+            goes_to(before, k, who, c),
+            entries,
+            i,
+            c,
+            EventKind::Message(k),
+        ),
+        _ => None,
+    }
 }
 
 /// The message that the entry sends to context c, if it waits.
@@ -157,6 +191,7 @@ fn waiting_message(
             c,
             EventKind::Message(*k),
         ),
+        (Call::HostSaid(_), Answer::Passed) => waiting_said(entries, i, before, e.who, c),
         _ => None,
     }
 }
@@ -226,6 +261,10 @@ fn waiting_disconnected(
     match &e.call {
         Call::Disconnect(k) => waiting_disconnected_on(entries, i, before, e, c, *k),
         Call::Leave => waiting_every_disconnected(entries, i, before, e, c),
+        Call::HostEnded(_) => match work_by(before, e.who) {
+            Some(Work::Channel(k)) => waiting_disconnected_on(entries, i, before, e, c, k),
+            _ => None,
+        },
         _ => None,
     }
 }
@@ -283,6 +322,28 @@ fn waiting_asked(
     }
 }
 
+/// The reply of a host to context c, if it waits.
+fn waiting_answered(
+    entries: &[Entry],
+    i: usize,
+    before: &[Entry],
+    who: Who,
+    c: ContextNo,
+) -> Option<Event>
+    ensures { result ≡ first (filter (is_waiting (reverse entries.now) c) (map (marked i) (answered (reverse before.now) (work_by (reverse before.now) who) c))) }
+{
+    match work_by(before, who) {
+        Some(Work::Request(r)) => waiting_if(
+            is_asker(before, r, c),
+            entries,
+            i,
+            c,
+            EventKind::Replied(r),
+        ),
+        _ => None,
+    }
+}
+
 /// The reply that the entry sends to context c, if it waits.
 fn waiting_replied(
     entries: &[Entry],
@@ -291,7 +352,7 @@ fn waiting_replied(
     e: &Entry,
     c: ContextNo,
 ) -> Option<Event>
-    ensures { result ≡ first (filter (is_waiting (reverse entries.now) c) (map (marked i) (replied (reverse before.now) e.now.call e.now.answer c))) }
+    ensures { result ≡ first (filter (is_waiting (reverse entries.now) c) (map (marked i) (replied (reverse before.now) e.now.who e.now.call e.now.answer c))) }
 {
     match (&e.call, &e.answer) {
         (Call::Reply(r, _), Answer::First) => waiting_if(
@@ -301,6 +362,7 @@ fn waiting_replied(
             c,
             EventKind::Replied(*r),
         ),
+        (Call::HostSaid(_), Answer::Passed) => waiting_answered(entries, i, before, e.who, c),
         _ => None,
     }
 }
@@ -360,6 +422,10 @@ fn waiting_unanswered(
     match &e.call {
         Call::Decline(r) => waiting_unanswered_on(entries, i, before, e, c, *r),
         Call::Leave => waiting_every_unanswered(entries, i, before, e, c),
+        Call::HostEnded(_) => match work_by(before, e.who) {
+            Some(Work::Request(r)) => waiting_unanswered_on(entries, i, before, e, c, r),
+            _ => None,
+        },
         _ => None,
     }
 }

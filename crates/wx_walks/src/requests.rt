@@ -8,6 +8,7 @@ ghost use Rattle.wx_machine.specs.Settling.{is_decline, has_declined, is_open_to
 
 use crate::closing::is_live_after;
 use crate::contexts::{is_by, is_live, is_receiver};
+use crate::hosts::{is_for_request, work_of};
 use wx_context::Target;
 use wx_id::{ContextNo, RequestNo};
 use wx_machine::{Answer, Call, Entry, LONGEST, Sort, Who};
@@ -18,6 +19,7 @@ pub fn asks(before: &[Entry], e: &Entry) -> bool
 {
     match (&e.who, &e.call, &e.answer) {
         (Who::Context(_), Call::Send(_, _), Answer::Request(_)) => true,
+        (Who::Context(_), Call::SendNative(_, _), Answer::Request(_)) => true,
         _ => false,
     }
 }
@@ -42,6 +44,7 @@ fn is_asker_at(before: &[Entry], e: &Entry, c: ContextNo) -> bool
 {
     match (&e.who, &e.call, &e.answer) {
         (Who::Context(asker), Call::Send(_, _), Answer::Request(_)) => *asker == c,
+        (Who::Context(asker), Call::SendNative(_, _), Answer::Request(_)) => *asker == c,
         _ => false,
     }
 }
@@ -265,6 +268,8 @@ pub fn ends_request(before: &[Entry], e: &Entry, r: RequestNo) -> bool
         (Who::Context(c), Call::Leave) => {
             is_asker(before, r, *c) || (is_asked(before, r, *c) && !has_open_receiver(before, e, r))
         }
+        (Who::Host(h), Call::HostSaid(_)) => is_for_request(work_of(before, *h), r),
+        (Who::Host(h), Call::HostEnded(_)) => is_for_request(work_of(before, *h), r),
         _ => false,
     }
 }

@@ -1,7 +1,0 @@
-use Rattle.std.proofs.Common.{refl}
-use Rattle.std.specs.Fmt.{digits}
-use Rattle.wx_journal.proofs.laws.one_connection_one_post_text.Goals as goal
-
-pub returns : goal.returns
-unfolding digits
-returns c = λ world. refl
