@@ -217,13 +217,11 @@ impl Draft {
             NamedAct::ReplySame(name) => Ok(Act::ReplySame(used(received, name)?)),
             NamedAct::Decline(name) => Ok(Act::Decline(used(received, name)?)),
             NamedAct::Native(name, host) => {
-                let var = bound(channels, name)?;
-                Ok(Act::Native(var, Utf8Text::new(alloc, host)?))
+                Ok(Act::Native(bound(channels, name)?, Utf8Text::new(alloc, host)?))
             }
             NamedAct::Ask(name, host, json) => {
                 let json = json_text(alloc, json)?;
-                let var = bound(asked, name)?;
-                Ok(Act::Ask(var, Utf8Text::new(alloc, host)?, json))
+                Ok(Act::Ask(bound(asked, name)?, Utf8Text::new(alloc, host)?, json))
             }
             NamedAct::Take => Ok(Act::Take),
             NamedAct::Await(event, name) => awaiting(&self.variables, event, name),
