@@ -4,5 +4,6 @@ pub mod CursorLemmas
 pub mod StepLemmas
 pub mod EndLemmas
 pub mod RoundLemmas
+pub mod HostLemmas
 pub mod RunLemmas
 pub mod OpeningLemmas

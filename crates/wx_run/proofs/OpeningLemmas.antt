@@ -18,6 +18,8 @@ use Rattle.wx_machine.specs.declared.entries.Entry.{Entry}
 use Rattle.wx_machine.specs.Contexts.{contexts, is_by, is_there, is_live, has_left, context_of, same_context, is_leave}
 use Rattle.wx_machine.specs.Answers.{IsLegal, FollowsMachine, answer_after}
 use Rattle.wx_machine.specs.Each.{EachAfter}
+use Rattle.wx_machine.specs.Hosts.{hosts}
+use Rattle.wx_machine.specs.Texts.{has_ended}
 use Rattle.wx_broker.specs.State.{BrokerState}
 use Rattle.wx_broker.specs.Steps.{Appends}
 use Rattle.wx_script.specs.declared.script.Act.TheVariants as act
@@ -38,6 +40,7 @@ use Rattle.wx_run.specs.Cursors.{cursor_of, cursor_at_start, cursors_from, AreBe
 use Rattle.wx_run.specs.Rounds.{Rounds}
 use Rattle.wx_run.specs.Round.{AllStand, AreRounds, Follows, IsWithinLimit}
 use Rattle.wx_run.specs.Run.{IsRunOf}
+use Rattle.wx_run.specs.Hosts.{HaveEnded}
 use Rattle.wx_run.specs.Step.{IsReady, Moves, IsStep}
 use Rattle.wx_run.proofs.ListLemmas.{take-snoc, length-take-at}
 use Rattle.wx_run.proofs.CursorLemmas.{place_of-own, place_of-other, entries_by-own, entries_by-other, cursors_from-later, cursors_from-append, scripts_in-cursors_from}
@@ -206,6 +209,7 @@ record HasEntered (world : WorldLists) (endpoints : List SceneEndpoint) (i : ℕ
   all_in : AreIn (i + 1) past
   follows : Follows (scripts_at endpoints) past
   within_limit : IsWithinLimit past
+  no_hosts : hosts past ≡ []
 
 enter_step : (world : WorldLists) (endpoints : List SceneEndpoint) (i : ℕ) (e : SceneEndpoint) (ps : List CursorState) (past : List Entry) → slice_get endpoints i ≡ Some e
     → OpenedSoFar world endpoints i ps past → FollowsMachine world past (entered (numbered i) e.context) → HasEntered world endpoints i e.script ps (entered (numbered i) e.context ∷ past)
@@ -229,6 +233,7 @@ enter_step world endpoints i e ps past is so follows =
       };
       follows = (so.follows, follows_script scripts past c s (entered c e.context) refl at (subst (λ p. MayCome past c (next_at past p) (entered c e.context)) (sym nothing) refl));
       within_limit = within_more c past (entered c e.context) refl few so.within_limit;
+      no_hosts = ap (λ started. started ++ []) so.no_hosts;
     }
 
 -- the answer to a `listen` behind the `enter`
@@ -273,6 +278,7 @@ opened_by world endpoints i e None ps p past after is first so came opened =
       all_in = came.all_in;
       follows = came.follows;
       within_limit = came.within_limit;
+      no_hosts = came.no_hosts;
     } in
     subst (λ j. OpenedSoFar world endpoints (i + 1) (ps ++ p ∷ []) j) (sym opened.1) here
 opened_by world endpoints i e (Some l) ps p past after is first so came opened =
@@ -294,6 +300,7 @@ opened_by world endpoints i e (Some l) ps p past after is first so came opened =
             };
             follows = (came.follows, follows_script (scripts_at endpoints) before c s x moves.own at moves.asked);
             within_limit = within_more c before x moves.own moves.within_limit came.within_limit;
+            no_hosts = ap (λ (e : Entry). hosts (e ∷ before)) made ∙ ap (λ started. started ++ []) came.no_hosts;
           } in
           subst (λ j. OpenedSoFar world endpoints (i + 1) (ps ++ p ∷ []) j) (sym moves.made) here
       | false ↦ λ rests.
@@ -312,7 +319,7 @@ opened_step world endpoints i e ps p past after is so opened =
 
 -- before the first endpoint
 pub opened_none : (world : WorldLists) (endpoints : List SceneEndpoint) → OpenedSoFar world endpoints 0 [] []
-opened_none world endpoints = record { legal = tt; begins = refl; behind = refl; all_in = record { counted = refl; below = tt }; follows = tt; within_limit = λ c. omega arith }
+opened_none world endpoints = record { legal = tt; begins = refl; behind = refl; all_in = record { counted = refl; below = tt }; follows = tt; within_limit = λ c. omega arith; no_hosts = refl }
 
 -- the cursors with one more
 pub opened_push : (world : WorldLists) (endpoints : List SceneEndpoint) (i : ℕ) (ps qs : List CursorState) (p : CursorState) (b : Bool) (past : List Entry) → qs ≡ cond b (ps ++ p ∷ []) ps → b ≡ true
@@ -343,6 +350,10 @@ opened_stand world endpoints ps past so =
       all_in = (let counted = so.all_in.counted in omega (arith, all, counted));
       within_limit = so.within_limit;
     })
+
+-- no host was started yet
+pub opened_hosts : (world : WorldLists) (endpoints : List SceneEndpoint) (ps : List CursorState) (past : List Entry) → OpenedSoFar world endpoints (length endpoints) ps past → HaveEnded past
+opened_hosts world endpoints ps past so = λ h below. let none : length (hosts past) ≡ 0 = ap length so.no_hosts in absurd (omega (arith, none, below))
 
 pub run_of : (world other : WorldLists) (scene : SceneValue) (ps : List CursorState) (opened : List Entry) (journal : List Entry) (end : RunEnd) → IsLegal world journal
     → OpenedSoFar other scene.endpoints (length scene.endpoints) ps opened → AreRounds (scripts_in ps) opened (reverse journal) end → IsRunOf world scene journal end

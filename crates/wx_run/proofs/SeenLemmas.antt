@@ -27,12 +27,12 @@ own_in-seen_by c (e ∷ past) = ap (λ n. cond (is_by e.who c) 1 0 + n) (own_in-
 -- what an endpoint's script asks for, where its number is known
 asked_of : (scripts : List (List Command)) (s : List Command) (past : List Entry) (who : Who) (c : ContextNo) (e : Entry)
     → AskedOf scripts past who e → is_by who c ≡ true → slice_get scripts c.0 ≡ Some s → MayCome past c (next_of s c past) e
-asked_of scripts s past (ByHost h) c e asked is_c is = absurd cc
 asked_of scripts s past (ByContext d) c e asked is_c is =
     let same : d.0 ≡ c.0 = eqb-true d.0 c.0 is_c in
     let here : IsAskedOf scripts past c e = subst (λ n. IsAskedOf scripts past (record { 0 = n }) e) same asked in
     let one : s ≡ here.script = (let both : Some s ≡ Some here.script = sym is ∙ here.is_endpoint in cc) in
     subst (λ s. MayCome past c (next_of s c past) e) (sym one) here.asked
+asked_of scripts s past (ByHost h) c e asked is_c is = absurd cc
 
 pub may_stand : (s : List Command) (c : ContextNo) (past : List Entry) (e : Entry) → MayCome past c (next_of s c past) e → MayStand s c true (seen_by c past) e
 may_stand s c past e may =

@@ -6,6 +6,7 @@ use Rattle.wx_machine.specs.declared.entries.Entry.{Entry}
 use Rattle.wx_machine.specs.Answers.{FollowsMachine}
 use Rattle.wx_machine.specs.Contexts.{contexts}
 use Rattle.wx_machine.specs.Each.{EachAfter}
+use Rattle.wx_machine.specs.Hosts.{hosts}
 use Rattle.wx_external.specs.World.{WorldLists}
 use Rattle.wx_context.specs.declared.contexts.Listens.{Listens}
 use Rattle.wx_script.specs.declared.script.Command.{Command}
@@ -45,6 +46,7 @@ pub record OpenedSoFar (world : WorldLists) (endpoints : List SceneEndpoint) (i 
   pub all_in : AreIn i past
   pub follows : Follows (scripts_at endpoints) past
   pub within_limit : IsWithinLimit past
+  pub no_hosts : hosts past ≡ []
 
 -- behind its `enter` an endpoint has made its first `listen`, if there is one, and its cursor stands behind it
 abbrev pub IsOpenedBy : WorldLists → ContextNo → List Command → Option Listens → CursorState → List Entry → List Entry → Type 0

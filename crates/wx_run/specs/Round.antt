@@ -17,6 +17,7 @@ use Rattle.wx_run.specs.declared.rounds.Rounded.TheVariants.{Moved, Idle, Spent}
 use Rattle.wx_run.specs.Cursors.{AreBehind, first_spent_in}
 use Rattle.wx_run.specs.Rounds.{Turns, Rounds, IsOver}
 use Rattle.wx_run.specs.Run.{EndsBy}
+use Rattle.wx_run.specs.Hosts.{HaveEnded}
 
 -- each entry follows the scripts
 abbrev pub Follows : List (List Command) → List Entry → Type 0
@@ -79,4 +80,5 @@ pub record AreRounds (scripts : List (List Command)) (before after : List Entry)
 pub record RoundsSoFar (world : WorldLists) (scripts : List (List Command)) (cursors : List CursorState) (before after : List Entry) : Type 0 where
   pub stand : AllStand world scripts cursors after
   pub unspent : first_spent_in 0 cursors ≡ None
+  pub hosts_ended : HaveEnded after
   pub rounds : (m : ℕ) (last : List Entry) → Rounds m scripts after last → (n : ℕ) × Rounds n scripts before last

@@ -1,11 +1,13 @@
--- The order in which endpoints make their entries. Every list of entries here has the newest first.
-use Rattle.std.specs.Prelude.{◌≡◌, ℕ, zero, suc, ◌+◌, ◌⊎◌, List, [], ◌∷◌, take, true, is_some}
+-- The order in which endpoints and hosts make their entries. Every list of entries here has the newest first.
+use Rattle.std.specs.Prelude.{◌≡◌, ℕ, zero, suc, ◌+◌, ◌⊎◌, length, List, [], ◌∷◌, take, true, is_some}
 use Rattle.wx_id.specs.declared.numbers.ContextNo.{ContextNo}
 use Rattle.wx_machine.specs.declared.entries.Who.TheVariants.{Context as ByContext}
 use Rattle.wx_machine.specs.declared.entries.Entry.{Entry}
 use Rattle.wx_script.specs.declared.script.Command.{Command}
 use Rattle.wx_script.specs.Places.{next_of}
 use Rattle.wx_script.specs.Ends.{is_idle, AreIdle, spent_of}
+use Rattle.wx_machine.specs.Hosts.{hosts}
+use Rattle.wx_run.specs.Hosts.{HostTurns}
 
 -- context c made one entry
 pub record MadeOne (c : ContextNo) (before after : List Entry) : Type 0 where
@@ -38,7 +40,13 @@ pub record IsCutShort (scripts : List (List Command)) (before after : List Entry
   pub count : ℕ
   pub turns : Turns (take count scripts) 0 before after
 
+-- A whole round: every endpoint has made its turn, and then each host that was started in it ended.
+pub record IsWhole (scripts : List (List Command)) (before after : List Entry) : Type 0 where
+  pub between : List Entry
+  pub turns : Turns scripts 0 before between
+  pub host_turns : HostTurns (length (hosts before)) between after
+
 -- so many whole rounds; then no endpoint can do anything, or one is spent and the last round is cut short
 abbrev pub Rounds : ℕ → List (List Command) → List Entry → List Entry → Type 0
 Rounds zero scripts before after = IsOver scripts before after ⊎ IsCutShort scripts before after
-Rounds (suc n) scripts before after = (between : List Entry) × Turns scripts 0 before between × Rounds n scripts between after
+Rounds (suc n) scripts before after = (between : List Entry) × IsWhole scripts before between × Rounds n scripts between after

@@ -13,15 +13,16 @@ use Rattle.wx_run.specs.declared.outcome.RunEnd.TheVariants.{Done, Stalled, Spen
 use Rattle.wx_script.specs.declared.scene.SpentWho.TheVariants.{Endpoint}
 use Rattle.wx_run.specs.Opening.{opening}
 use Rattle.wx_run.specs.Rounds.{Rounds}
+use Rattle.wx_run.specs.Hosts.{HaveEnded}
 
 -- the journal begins with these entries
 abbrev pub BeginsWith : List Entry → List Entry → Type 0
 BeginsWith front journal = (others : List Entry) × (journal ≡ front ++ others)
 
--- the run has this end, the newest entry standing first
+-- the run has this end, the newest entry standing first; a run is done or stalled only where every host has ended
 abbrev pub EndsBy : List (List Command) → List Entry → RunEnd → Type 0
-EndsBy scripts past Done = IsDone scripts past
-EndsBy scripts past Stalled = IsStalled scripts past
+EndsBy scripts past Done = IsDone scripts past × HaveEnded past
+EndsBy scripts past Stalled = IsStalled scripts past × HaveEnded past
 EndsBy scripts past (Spent (Endpoint n)) = spent_of scripts past ≡ Some n
 
 -- A journal that a run of the scene leaves, and how it ends.

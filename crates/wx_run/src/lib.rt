@@ -1,6 +1,7 @@
 //! Runs of a scene in rounds, over the broker.
 #![tactic(auto)]
 
+mod hosts;
 mod opening;
 mod outcome;
 mod rounds;

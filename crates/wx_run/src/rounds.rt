@@ -1,7 +1,9 @@
 ghost use Rattle.std.specs.Prelude.{◌≡◌, IfOk, OnOk, None, reverse, if◌then◌else◌};
 ghost use Rattle.wx_run.specs.Cursors.{scripts_in, first_spent_in, all_left, work_in};
+ghost use Rattle.wx_run.specs.Hosts.{HaveEnded};
 ghost use Rattle.wx_run.specs.Round.{AllStand, IsRound, RoundLessens, AreRounds};
 
+use crate::hosts::end_hosts;
 use crate::outcome::RunEnd;
 use crate::step::make_turn;
 use wx_endpoint::{BrokerDesk, Cursor};
@@ -64,18 +66,21 @@ pub fn round(cursors: &mut Vec<Cursor<'_>>, desk: &mut BrokerDesk) -> Result<Rou
     Ok(if moved { Rounded::Moved } else { Rounded::Idle })
 }
 
-/// Round after round, until no endpoint can do anything or one is spent.
+/// Round after round, until no endpoint can do anything or one is spent. Behind the turns of a round the hosts that were
+/// started in it end.
 pub fn run_rounds(cursors: &mut Vec<Cursor<'_>>, desk: &mut BrokerDesk) -> Result<RunEnd, NoMemory>
-    requires { AllStand desk.old.broker.world (scripts_in cursors.old.items) cursors.old.items (reverse desk.old.broker.entries) }
+    requires stand { AllStand desk.old.broker.world (scripts_in cursors.old.items) cursors.old.items (reverse desk.old.broker.entries) }
+    requires hosts { HaveEnded (reverse desk.old.broker.entries) }
     ensures rounds { IfOk result (λ end. AreRounds (scripts_in cursors.old.items) (reverse desk.old.broker.entries) (reverse desk.new.broker.entries) end) }
     ensures same_world { OnOk result (desk.new.broker.world ≡ desk.old.broker.world) }
 {
     if let Some(i) = first_spent(cursors) {
         return Ok(RunEnd::Spent(SpentWho::Endpoint(i)));
     }
+    let mut hosts = desk.broker.hosts();
     loop {
         match round(cursors, desk)? {
-            Rounded::Moved => {}
+            Rounded::Moved => hosts = end_hosts(desk, hosts)?,
             Rounded::Idle => return Ok(end_of(cursors)),
             Rounded::Spent(i) => return Ok(RunEnd::Spent(SpentWho::Endpoint(i))),
         }

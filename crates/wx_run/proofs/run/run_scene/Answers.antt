@@ -3,15 +3,19 @@ use Rattle.std.specs.Prelude.{reverse, length}
 use Rattle.wx_machine.specs.Answers.{IsLegal}
 use Rattle.wx_run.specs.Opened.{OpenedSoFar}
 use Rattle.wx_run.specs.Run.{IsRunOf}
-use Rattle.wx_run.proofs.OpeningLemmas.{opened_stand, run_of}
+use Rattle.wx_run.proofs.OpeningLemmas.{opened_stand, opened_hosts, run_of}
 use Rattle.wx_run.proofs.run.run_scene.Goals as goal
 
-pub run_rounds-requires : goal.run_rounds-requires
-run_rounds-requires c =
+pub run_rounds-requires-clause-stand : goal.run_rounds-requires-clause-stand
+run_rounds-requires-clause-stand c =
     let endpoints = c.args.scene.now.endpoints in
     let opened : OpenedSoFar c.open.new.desk.broker.world endpoints (length endpoints) c.in_ok-cursors.cursors.items (reverse c.open.new.desk.broker.entries) =
     subst (λ w. OpenedSoFar w endpoints (length endpoints) c.in_ok-cursors.cursors.items (reverse c.open.new.desk.broker.entries)) (sym c.in_ok-cursors.ensures.same_world) c.in_ok-cursors.ensures.opened in
     opened_stand c.open.new.desk.broker.world endpoints _ _ opened
+
+pub run_rounds-requires-clause-hosts : goal.run_rounds-requires-clause-hosts
+run_rounds-requires-clause-hosts c =
+    opened_hosts _ c.args.scene.now.endpoints c.in_ok-cursors.cursors.items (reverse c.open.new.desk.broker.entries) c.in_ok-cursors.ensures.opened
 
 pub returns : goal.returns
 returns c =
