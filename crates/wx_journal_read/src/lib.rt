@@ -1,0 +1,8 @@
+//! The text of a journal, read back: what reading takes is what is printed, and different journals have different texts.
+#![tactic(auto)]
+
+mod fault;
+pub mod fits;
+pub mod laws;
+
+pub use fault::{JournalFault, JournalKind, JournalReadFault};
