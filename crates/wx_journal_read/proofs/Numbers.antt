@@ -43,13 +43,3 @@ narrow bytes = narrow_by (is_plain (digits_of bytes)) (digits_value 10 (digits_o
 
 pub digits_all : (bytes : List ℕ) → all_ascii_digits (digits_of bytes) ≡ true
 digits_all bytes = (two_parts bytes).1
-
-pub is_text : (bytes : List ℕ) → IsUtf8 bytes → where_so (is_utf8 bytes) bytes ≡ Some bytes
-is_text bytes h = let t = is_utf8-from_IsUtf8 bytes h in rw t refl
-
-pub is_no_text : (bytes : List ℕ) → (IsUtf8 bytes → ⊥) → where_so (is_utf8 bytes) bytes ≡ None
-is_no_text bytes h =
-    elim (is_utf8 bytes) as (λ t. is_utf8 bytes ≡ t → where_so t bytes ≡ None) [
-      | true ↦ λ is. absurd (h (IsUtf8-from_is_utf8 bytes is))
-      | false ↦ λ is. refl
-    ] refl

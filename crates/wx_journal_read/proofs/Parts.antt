@@ -58,7 +58,7 @@ id_reads = record {
   again = λ id rest fits short ends.
       let last : (length id == 32) ≡ true = last_true _ _ fits in
       let len : length id ≡ 32 = eqb-true _ _ last in
-      let long : nat_lt (length (id ++ rest)) 32 ≡ false = le-ltb _ _ (omega (arith, length-append id rest)) in
+      let long : nat_lt (length (id ++ rest)) 32 ≡ false = le-ltb _ _ (subst (λ (n : ℕ). 32 ≤ n) (sym (length-append id rest)) (omega (arith, len))) in
       rw (long, take_at id rest 32 len, drop_at id rest 32 len, fits) refl;
 }
 

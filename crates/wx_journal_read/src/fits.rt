@@ -175,7 +175,9 @@ pub fn entry(e: &Entry)
 pub fn journal(entries: &[Entry])
     ensures { JournalFits entries.now }
 {
-    for e in entries {
-        entry(e);
+    let mut rest = entries;
+    while let Some((first, others)) = rest.split_first() {
+        entry(first);
+        rest = others;
     }
 }

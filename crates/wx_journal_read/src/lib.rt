@@ -2,7 +2,9 @@
 #![tactic(auto)]
 
 mod fault;
+mod field;
 pub mod fits;
 pub mod laws;
+mod sort;
 
 pub use fault::{JournalFault, JournalKind, JournalReadFault};
