@@ -2,13 +2,14 @@
 use Rattle.std.proofs.Common.{◌≡◌, ℕ, zero, suc, ◌+◌, ◌^◌, ◌<◌, ◌≤◌, Bool, true, false, not, ◌&&◌, cond, List, [], ◌∷◌, ◌++◌, length, take, drop, Option, Some, None, refl, sym, ap, subst, ◌∙◌, append_assoc, arith, length-append}
 use Rattle.std.specs.Prelude.{IsTrue, codes, decimal, ◌==◌, nat_lt}
 use Rattle.std.specs.Char.{is_ascii_digit}
+use Rattle.std.specs.List.{list_all}
 use Rattle.std.specs.Str.{all_ascii_digits, is_utf8}
 use Rattle.std.proofs.lemmas.Bool.{eqb-true, le-ltb}
 use Rattle.std.proofs.lemmas.Bool.Decides.{nat_tests}
 use Rattle.std.proofs.lemmas.List.{take_at, drop_at, take-append-drop}
 use Rattle.std.proofs.lemmas.Option.{cond_some, same_Some}
 use Rattle.std.proofs.lemmas.Fmt.{digits_decimal, decimal_nonempty}
-use Rattle.wx_id.specs.Ids.{is_extension_id}
+use Rattle.wx_id.specs.Ids.{is_id_letter, is_extension_id}
 use Rattle.wx_id.specs.declared.numbers.FrameId.{FrameId}
 use Rattle.wx_json.specs.Test.{is_json_text}
 use Rattle.wx_json.specs.Text.{IsJsonText}
@@ -56,9 +57,9 @@ id_reads = record {
       let q = cond_some _ _ _ some in
       subst (λ (y : List ℕ × List ℕ). IsTrue (is_extension_id y.0) × (bytes ≡ y.0 ++ y.1)) q.1 (q.0, sym (take-append-drop 32 bytes));
   again = λ id rest fits short ends.
-      let last : (length id == 32) ≡ true = last_true _ _ fits in
+      let last : (length id == 32) ≡ true = last_true (list_all is_id_letter id) (length id == 32) fits in
       let len : length id ≡ 32 = eqb-true _ _ last in
-      let long : nat_lt (length (id ++ rest)) 32 ≡ false = le-ltb _ _ (subst (λ (n : ℕ). 32 ≤ n) (sym (length-append id rest)) (omega (arith, len))) in
+      let long : nat_lt (length (id ++ rest)) 32 ≡ false = le-ltb _ _ (omega (arith, length-append id rest)) in
       rw (long, take_at id rest 32 len, drop_at id rest 32 len, fits) refl;
 }
 
