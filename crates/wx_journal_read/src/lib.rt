@@ -10,5 +10,7 @@ pub mod laws;
 mod part;
 mod reason;
 mod sort;
+mod whole;
 
 pub use fault::{JournalFault, JournalKind, JournalReadFault};
+pub use whole::read;
