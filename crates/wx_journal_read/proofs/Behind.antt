@@ -1,5 +1,5 @@
 -- What stands behind a word, by the test of a front.
-use Rattle.std.proofs.Common.{◌≡◌, ℕ, Bool, true, false, ◌&&◌, cond, List, [], ◌∷◌, length, take, drop, Option, Some, None, refl, nat_eq}
+use Rattle.std.proofs.Common.{◌≡◌, ℕ, true, false, ◌&&◌, cond, List, [], ◌∷◌, length, drop, Some, None, refl, nat_eq}
 use Rattle.std.specs.List.{starts_with}
 use Rattle.std.specs.Prelude.{◌==◌}
 use Rattle.wx_journal_read.specs.Reading.{behind}

@@ -1,16 +1,15 @@
 -- Calls are read as they are spelled.
-use Rattle.std.proofs.Common.{◌≡◌, ℕ, ◌^◌, ◌<◌, List, [], ◌∷◌, ◌++◌, length, Option, Some, refl}
-use Rattle.std.specs.Prelude.{IsTrue, codes, decimal}
+use Rattle.std.proofs.Common.{◌^◌, refl}
+use Rattle.std.specs.Prelude.{codes, decimal}
 use Rattle.std.specs.Str.{is_utf8}
 use Rattle.wx_json.specs.Test.{is_json_text}
 use Rattle.wx_json.specs.Text.{IsJsonText}
-use Rattle.wx_machine.specs.declared.entries.Call.{Call}
 use Rattle.wx_machine.specs.declared.entries.Call.TheVariants.{Enter, Listen, Leave, Connect, Post, Disconnect, Send, Reply, Decline, Take, ConnectNative, SendNative, HostTake, HostSaid, HostEnded}
 use Rattle.wx_journal_text.specs.Text.{sized, target_text, call_text}
 use Rattle.wx_journal_read.specs.Reading.{behind, both_at, sized_at}
 use Rattle.wx_journal_read.specs.Fits.{TargetFits, CallFits}
 use Rattle.wx_journal_read.specs.Grammar.{n64, sp, target_at, call_rows, port_call_rows, request_call_rows, native_call_rows, host_call_rows, call_at, port_call_at, request_call_at, native_call_at, host_call_at, connect_at, post_at, send_at, reply_at, send_native_at}
-use Rattle.wx_journal_read.proofs.Fields.{Reads, ends_number}
+use Rattle.wx_journal_read.proofs.Fields.{Reads}
 use Rattle.wx_journal_read.proofs.Combined.{Both, both_text, both_reads, choice_takes, choice_or_takes, Taking, just_row, mapped_row, row_again}
 use Rattle.wx_journal_read.proofs.Parts.{Below, Passes, Again, num64, name_reads, json_reads, target_reads, context_reads, listens_reads}
 use Rattle.wx_journal_read.proofs.Reasons.{reason_reads}

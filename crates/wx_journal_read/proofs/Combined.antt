@@ -1,9 +1,9 @@
 -- The laws of readers that are put together.
-use Rattle.std.proofs.Common.{◌≡◌, ℕ, zero, suc, ◌+◌, ◌^◌, ◌<◌, ◌≤◌, Bool, true, false, not, List, [], ◌∷◌, ◌++◌, length, Option, Some, None, refl, sym, ap, subst, ◌∙◌, append_assoc, arith, length-append}
+use Rattle.std.proofs.Common.{◌≡◌, ℕ, ◌^◌, ◌<◌, Bool, true, List, [], ◌∷◌, ◌++◌, length, Some, None, refl, sym, ap, subst, ◌∙◌, append_assoc, arith, length-append}
 use Rattle.std.specs.Prelude.{IsTrue, ◌==◌}
 use Rattle.std.proofs.lemmas.Bool.Decides.{nat_tests}
 use Rattle.std.proofs.lemmas.Option.{same_Some}
-use Rattle.wx_journal_read.specs.Reading.{◌>>=◌, Reader, behind, both_at, mapped, just, Rows, or_else, choice, choice_or}
+use Rattle.wx_journal_read.specs.Reading.{Reader, behind, both_at, mapped, just, Rows, or_else, choice, choice_or}
 use Rattle.wx_journal_read.proofs.Fields.{Reads, ends_number, bind_some, behind_takes}
 
 pub behind_again : (word rest : List ℕ) → behind word (word ++ rest) ≡ Some rest

@@ -1,5 +1,5 @@
 -- An entry's line is read as it is spelled, whatever follows it.
-use Rattle.std.proofs.Common.{◌≡◌, ℕ, ◌^◌, ◌<◌, List, [], ◌∷◌, ◌++◌, length, Option, Some, refl, sym, ap, subst, ◌∙◌, append_assoc}
+use Rattle.std.proofs.Common.{◌≡◌, ℕ, ◌^◌, ◌<◌, List, ◌++◌, length, Some, refl, ap, subst, ◌∙◌, append_assoc}
 use Rattle.std.specs.Prelude.{codes}
 use Rattle.std.proofs.lemmas.Option.{same_Some}
 use Rattle.wx_machine.specs.declared.entries.Who.{Who}
@@ -7,7 +7,7 @@ use Rattle.wx_machine.specs.declared.entries.Call.{Call}
 use Rattle.wx_machine.specs.declared.entries.Answer.{Answer}
 use Rattle.wx_machine.specs.declared.entries.Entry.{Entry}
 use Rattle.wx_journal_text.specs.Text.{who_text, call_text, answer_text, entry_text}
-use Rattle.wx_journal_read.specs.Reading.{◌>>=◌, behind, both_at}
+use Rattle.wx_journal_read.specs.Reading.{behind, both_at}
 use Rattle.wx_journal_read.specs.Fits.{WhoFits, CallFits, AnswerFits, EntryFits}
 use Rattle.wx_journal_read.specs.Grammar.{sp, who_at, call_at, answer_at, entry_at}
 use Rattle.wx_journal_read.proofs.Fields.{Reads, bind_some, behind_takes}

@@ -1,8 +1,8 @@
 -- Journals and their texts.
-use Rattle.std.proofs.Common.{◌≡◌, ℕ, zero, suc, ◌+◌, ◌-◌, ◌^◌, ◌<◌, ◌≤◌, Bool, true, false, cond, List, [], ◌∷◌, ◌++◌, length, Option, Some, None, Result, Ok, Err, refl, sym, ap, subst, ◌∙◌, append_assoc, arith, length-append}
-use Rattle.std.specs.Prelude.{codes, flat_map, ◌==◌}
+use Rattle.std.proofs.Common.{◌≡◌, ℕ, zero, suc, ◌+◌, ◌-◌, ◌^◌, ◌<◌, ◌≤◌, true, false, cond, List, [], ◌∷◌, ◌++◌, length, Some, None, Result, Ok, Err, refl, sym, ap, subst, ◌∙◌, append_assoc, arith, length-append}
+use Rattle.std.specs.Prelude.{flat_map, ◌==◌}
 use Rattle.std.proofs.lemmas.List.{append-nil, nil_from_length}
-use Rattle.std.proofs.lemmas.Bool.{eqb-true, eqb-false}
+use Rattle.std.proofs.lemmas.Bool.{eqb-true}
 use Rattle.std.proofs.lemmas.Option.{same_Some}
 use Rattle.std.proofs.lemmas.List.Concat.{flat_map-append}
 use Rattle.wx_machine.specs.declared.entries.Entry.{Entry}
@@ -12,7 +12,7 @@ use Rattle.wx_journal_read.specs.declared.fault.JournalKind.TheVariants.{Head, L
 use Rattle.wx_journal_read.specs.Reading.{behind}
 use Rattle.wx_journal_read.specs.Grammar.{entry_at, who_at, entries_at}
 use Rattle.wx_journal_read.specs.Fits.{EntryFits, JournalFits}
-use Rattle.wx_journal_read.specs.Whole.{head, ended, headed, journal_at, IsLongest, IsLineFault, IsFault, IsFaultOf}
+use Rattle.wx_journal_read.specs.Whole.{head, ended, headed, journal_at, IsLineFault, IsFault, IsFaultOf}
 use Rattle.wx_journal_read.specs.Gives.{GivesWhole, IfBad}
 use Rattle.wx_journal_read.specs.declared.fault.JournalKind.{JournalKind}
 use Rattle.wx_journal_read.specs.declared.fault.JournalReadFault.{JournalReadFault}
@@ -21,8 +21,8 @@ use Rattle.std.specs.Prelude.{IfOk}
 use Rattle.std.proofs.lemmas.Bool.Decides.{nat_tests}
 use Rattle.wx_journal_read.proofs.Fields.{behind_takes}
 use Rattle.wx_journal_read.proofs.Combined.{behind_again}
-use Rattle.wx_journal_read.proofs.Entries.{entry_takes, entry_again}
-use Rattle.wx_journal_read.proofs.Runs.{run_takes, run_again, IsRun, some_text}
+use Rattle.wx_journal_read.proofs.Entries.{entry_again}
+use Rattle.wx_journal_read.proofs.Runs.{run_takes, run_again, some_text}
 
 -- no entry's line begins another
 pub no_prefix : (e f : Entry) (x y : List ℕ) → EntryFits e → EntryFits f → length (entry_text e ++ x) < 2 ^ 64 → entry_text e ++ x ≡ entry_text f ++ y → (e ≡ f) × (x ≡ y)

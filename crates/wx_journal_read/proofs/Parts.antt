@@ -1,5 +1,5 @@
 -- Who makes a call, targets and contexts are read as they are spelled.
-use Rattle.std.proofs.Common.{◌≡◌, ℕ, zero, suc, ◌+◌, ◌^◌, ◌<◌, ◌≤◌, Bool, true, false, not, ◌&&◌, cond, List, [], ◌∷◌, ◌++◌, length, take, drop, Option, Some, None, refl, sym, ap, subst, ◌∙◌, append_assoc, arith, length-append}
+use Rattle.std.proofs.Common.{◌≡◌, ℕ, ◌^◌, ◌<◌, Bool, true, false, ◌&&◌, cond, List, [], ◌∷◌, ◌++◌, length, take, drop, Option, Some, None, refl, sym, subst, append_assoc, arith, length-append}
 use Rattle.std.specs.Prelude.{IsTrue, codes, decimal, ◌==◌, nat_lt}
 use Rattle.std.specs.Char.{is_ascii_digit}
 use Rattle.std.specs.List.{list_all}
@@ -7,7 +7,7 @@ use Rattle.std.specs.Str.{all_ascii_digits, is_utf8}
 use Rattle.std.proofs.lemmas.Bool.{eqb-true, le-ltb}
 use Rattle.std.proofs.lemmas.Bool.Decides.{nat_tests}
 use Rattle.std.proofs.lemmas.List.{take_at, drop_at, take-append-drop}
-use Rattle.std.proofs.lemmas.Option.{cond_some, same_Some}
+use Rattle.std.proofs.lemmas.Option.{cond_some}
 use Rattle.std.proofs.lemmas.Fmt.{digits_decimal, decimal_nonempty}
 use Rattle.wx_id.specs.Ids.{is_id_letter, is_extension_id}
 use Rattle.wx_id.specs.declared.numbers.FrameId.{FrameId}
@@ -15,18 +15,16 @@ use Rattle.wx_json.specs.Test.{is_json_text}
 use Rattle.wx_json.specs.Text.{IsJsonText}
 use Rattle.wx_json.proofs.TestLaws.{is_json_text-exact}
 use Rattle.wx_context.specs.Paths.{is_page_path}
-use Rattle.wx_context.specs.declared.contexts.Context.{Context}
 use Rattle.wx_context.specs.declared.contexts.Context.TheVariants.{Page, Content, Web}
-use Rattle.wx_context.specs.declared.contexts.Target.{Target}
 use Rattle.wx_context.specs.declared.contexts.Target.TheVariants.{Own, Other, Tab}
 use Rattle.wx_context.specs.declared.contexts.Listens.{Listens}
 use Rattle.wx_machine.specs.declared.entries.Who.{Who}
 use Rattle.wx_machine.specs.declared.entries.Who.TheVariants.{Context as ByContext, Host as ByHost}
 use Rattle.wx_journal_text.specs.Text.{sized, who_text, frame_text, target_text, context_text, flag, listens_text}
-use Rattle.wx_journal_read.specs.Reading.{◌>>=◌, where_so, Reader, behind, number_at, sized_at, both_at, mapped, just, Rows, choice}
+use Rattle.wx_journal_read.specs.Reading.{where_so, Reader, behind, sized_at, both_at}
 use Rattle.wx_journal_read.specs.Fits.{is_url, WhoFits, FrameFits, TargetFits, ContextFits}
 use Rattle.wx_journal_read.specs.Grammar.{n32, n64, sp, id_at, who_at, frame_at, target_at, page_at, content_at, web_at, context_at, flag_at, listens_at, who_rows, frame_rows, target_rows, context_rows, flag_rows}
-use Rattle.wx_journal_read.proofs.Fields.{Reads, ends_number, bind_some, number_reads, sized_reads, own}
+use Rattle.wx_journal_read.proofs.Fields.{Reads, ends_number, number_reads, sized_reads, own}
 use Rattle.wx_journal_read.proofs.Combined.{behind_again, Both, both_text, both_reads, choice_takes, just_row, mapped_row, row_again}
 
 abbrev pub Below : ℕ → ℕ → Type 0

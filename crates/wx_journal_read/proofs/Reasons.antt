@@ -1,15 +1,13 @@
 -- The reasons of a host's end are read as they are spelled.
-use Rattle.std.proofs.Common.{◌≡◌, ℕ, ◌^◌, ◌<◌, List, [], ◌∷◌, ◌++◌, length, Option, Some, refl}
-use Rattle.std.specs.Prelude.{IsTrue, codes, decimal}
-use Rattle.wx_json.specs.declared.JsonKind.{JsonKind}
+use Rattle.std.proofs.Common.{◌^◌, refl}
+use Rattle.std.specs.Prelude.{codes, decimal}
 use Rattle.wx_json.specs.declared.JsonKind.TheVariants.{Syntax, Utf8, TooDeep, Ends}
-use Rattle.wx_machine.specs.declared.entries.Reason.{Reason}
 use Rattle.wx_machine.specs.declared.entries.Reason.TheVariants as reason
 use Rattle.wx_journal_text.specs.Text.{json_kind_text, reason_text}
 use Rattle.wx_journal_read.specs.Reading.{behind, both_at}
 use Rattle.wx_journal_read.specs.Fits.{ReasonFits}
 use Rattle.wx_journal_read.specs.Grammar.{n64, sp, json_kind_rows, json_kind_at, reason_rows, frame_reason_rows, end_reason_rows, reason_at, frame_reason_at, end_reason_at}
-use Rattle.wx_journal_read.proofs.Fields.{Reads, ends_number}
+use Rattle.wx_journal_read.proofs.Fields.{Reads}
 use Rattle.wx_journal_read.proofs.Combined.{Both, both_text, both_reads, choice_takes, choice_or_takes, Taking, just_row, mapped_row, row_again}
 use Rattle.wx_journal_read.proofs.Parts.{Below, Any, Again, num64, num32}
 

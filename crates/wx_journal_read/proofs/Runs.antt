@@ -1,12 +1,10 @@
 -- Runs of whole entries.
-use Rattle.std.proofs.Common.{◌≡◌, ℕ, zero, suc, ◌+◌, ◌-◌, ◌^◌, ◌<◌, ◌≤◌, List, [], ◌∷◌, ◌++◌, length, Option, Some, None, refl, sym, ap, subst, ◌∙◌, append_assoc, arith, length-append}
-use Rattle.std.specs.Prelude.{codes, flat_map}
-use Rattle.std.specs.List.{AllByRecursion}
+use Rattle.std.proofs.Common.{◌≡◌, ℕ, zero, suc, ◌+◌, ◌-◌, ◌^◌, ◌<◌, ◌≤◌, List, [], ◌∷◌, ◌++◌, length, Some, None, refl, sym, ap, ◌∙◌, append_assoc, arith, length-append}
+use Rattle.std.specs.Prelude.{flat_map}
 use Rattle.std.proofs.lemmas.List.Concat.{flat_map-cons}
 use Rattle.std.proofs.lemmas.List.{append-nil}
 use Rattle.wx_machine.specs.declared.entries.Entry.{Entry}
-use Rattle.wx_journal_text.specs.Text.{entry_text, who_text, journal_text}
-use Rattle.wx_machine.specs.declared.entries.Who.TheVariants.{Context as ByContext, Host as ByHost}
+use Rattle.wx_journal_text.specs.Text.{entry_text}
 use Rattle.wx_journal_read.specs.Reading.{behind}
 use Rattle.wx_journal_read.specs.Grammar.{who_at, entry_at, entries_with, entries_at}
 use Rattle.wx_journal_read.specs.Fits.{JournalFits}

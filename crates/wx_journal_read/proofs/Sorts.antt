@@ -1,6 +1,6 @@
 -- Texts of a sort, and of none.
-use Rattle.std.proofs.Common.{◌≡◌, ℕ, ◌<◌, Bool, true, false, List, [], ◌∷◌, ◌++◌, length, get_or, Option, Some, None, refl, ap, arith}
-use Rattle.std.specs.Prelude.{◌&&◌, ◌==◌, nat_le, bytes_eq}
+use Rattle.std.proofs.Common.{◌≡◌, ℕ, ◌<◌, Bool, true, false, List, [], ◌∷◌, get_or, Some, None, refl, ap, arith}
+use Rattle.std.specs.Prelude.{◌&&◌, nat_le, bytes_eq}
 use Rattle.std.specs.List.{list_all, AllPass}
 use Rattle.std.specs.Str.{IsUtf8, is_utf8}
 use Rattle.std.proofs.lemmas.Bool.{and_parts, eqb-true}
@@ -9,7 +9,7 @@ use Rattle.std.proofs.lemmas.List.Sums.{AllPass-from_list_all}
 use Rattle.std.proofs.lemmas.Str.{IsUtf8-from_ascii, is_utf8-from_IsUtf8, IsUtf8-from_is_utf8}
 use Rattle.std.proofs.lemmas.Slice.Eq.{bytes_eq-Decides}
 use Rattle.std.proofs.lemmas.Str.Ascii.{IsAscii-from_all}
-use Rattle.wx_context.specs.Paths.{is_printable, is_page_path}
+use Rattle.wx_context.specs.Paths.{is_page_path}
 use Rattle.wx_context.specs.WebUrls.{web_url_of, is_web_url}
 use Rattle.wx_journal_read.specs.Fits.{is_url}
 use Rattle.wx_journal_read.specs.Reading.{where_so}

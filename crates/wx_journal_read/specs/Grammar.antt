@@ -3,7 +3,6 @@ use Rattle.std.specs.Prelude.{ℕ, zero, suc, ◌^◌, Bool, true, false, List, 
 use Rattle.std.specs.Str.{is_utf8}
 use Rattle.wx_id.specs.Ids.{is_extension_id}
 use Rattle.wx_id.specs.declared.numbers.FrameId.{FrameId}
-use Rattle.wx_id.specs.declared.events.EventKind.{EventKind}
 use Rattle.wx_id.specs.declared.events.EventKind.TheVariants.{Connected, Message, Disconnected, Asked, Replied, Closed}
 use Rattle.wx_json.specs.Test.{is_json_text}
 use Rattle.wx_json.specs.declared.JsonKind.{JsonKind}

@@ -1,7 +1,7 @@
 -- The text of a journal, read whole.
-use Rattle.std.specs.Prelude.{◌≡◌, ℕ, ◌<◌, ◌≤◌, ◌+◌, ◌-◌, ◌^◌, ◌==◌, List, [], ◌∷◌, ◌++◌, length, Option, Some, None, Result, Ok, Err, codes, flat_map, if◌then◌else◌}
+use Rattle.std.specs.Prelude.{◌≡◌, ℕ, ◌<◌, ◌≤◌, ◌-◌, ◌==◌, List, ◌++◌, length, Option, Some, None, Result, Ok, Err, codes, if◌then◌else◌}
 use Rattle.wx_machine.specs.declared.entries.Entry.{Entry}
-use Rattle.wx_journal_text.specs.Text.{entry_text, journal_text}
+use Rattle.wx_journal_text.specs.Text.{journal_text}
 use Rattle.wx_journal_read.specs.declared.fault.JournalFault.{JournalFault}
 use Rattle.wx_journal_read.specs.declared.fault.JournalKind.{JournalKind}
 use Rattle.wx_journal_read.specs.declared.fault.JournalKind.TheVariants.{Head, Line}

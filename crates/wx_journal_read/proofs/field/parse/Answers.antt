@@ -1,4 +1,4 @@
-use Rattle.std.proofs.Common.{ap, ◌∙◌}
+use Rattle.std.proofs.Common.{◌∙◌}
 use Rattle.wx_journal_read.proofs.Numbers.{utf8_digits, parsed}
 use Rattle.wx_journal_read.proofs.field.parse.Goals as goal
 

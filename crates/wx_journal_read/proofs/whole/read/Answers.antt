@@ -1,4 +1,4 @@
-use Rattle.std.proofs.Common.{◌≡◌, ◌<◌, ◌^◌, length, arith}
+use Rattle.std.proofs.Common.{arith}
 use Rattle.wx_journal_read.proofs.Journals.{found_is, bad_is, only_is}
 use Rattle.wx_journal_read.proofs.whole.read.Goals as goal
 
