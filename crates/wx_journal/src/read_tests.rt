@@ -29,40 +29,40 @@ fn native_calls() -> &'static [u8] {
     b"wx journal 1 chrome\nc0 connect_native 1:e -> no_permission\nc0 connect_native 2:.. -> bad_host_name\nc0 connect_native 0: -> host_not_found\nc0 send_native 3:a b 2:[] -> host_forbidden\nh0 host_take -> text 1\nh0 host_take -> empty\nh0 host_take -> end\nh0 host_said 1:1 -> passed\nh0 host_said 1:1 -> ignored\nh18446744073709551615 host_ended start_failed -> done\nh0 host_ended read_failed -> already\nh0 host_ended write_failed -> already\nh0 host_ended too_long 4294967295 -> already\nh0 host_ended bad_json 2 syntax -> already\nh0 host_ended bad_json 0 utf8 -> already\nh0 host_ended bad_json 1024 too_deep -> already\nh0 host_ended bad_json 18446744073709551615 ends -> already\nh0 host_ended cut 5 -> already\nh0 host_ended exited -> already\nh0 host_ended closed -> already\n"
 }
 
-/// Texts behind the head line that are no run of entry lines, and how long the longest run in front is.
+/// What follows the head line and is no run of entry lines, and the place behind the longest run.
 fn bad_lines() -> &'static [(&'static [u8], u64)] {
     &[
-        (b"c0 take -> empty", 0),
-        (b"c00 take -> empty\n", 0),
-        (b"c0 take -> empty\nc1 take -> empty", 17),
-        (b"c0 take -> empty\n\n", 17),
-        (b"c18446744073709551616 take -> empty\n", 0),
-        (b"c take -> empty\n", 0),
-        (b"c0  take -> empty\n", 0),
-        (b"c0 take -> empty 1\n", 0),
-        (b"c0 connect tab 4294967296 0 0: -> no_receiver\n", 0),
-        (b"c0 connect tab 7 ** 0: -> no_receiver\n", 0),
-        (b"c0 connect tab 7 0: -> no_receiver\n", 0),
+        (b"c0 take -> empty", 20),
+        (b"c00 take -> empty\n", 20),
+        (b"c0 take -> empty\nc1 take -> empty", 37),
+        (b"c0 take -> empty\n\n", 37),
+        (b"c18446744073709551616 take -> empty\n", 20),
+        (b"c take -> empty\n", 20),
+        (b"c0  take -> empty\n", 20),
+        (b"c0 take -> empty 1\n", 20),
+        (b"c0 connect tab 4294967296 0 0: -> no_receiver\n", 20),
+        (b"c0 connect tab 7 ** 0: -> no_receiver\n", 20),
+        (b"c0 connect tab 7 0: -> no_receiver\n", 20),
         (
             b"c0 connect ext aaaaaaaaaaaaaaaaaaaaaaaaaaaaaaa 0: -> no_receiver\n",
-            0,
+            20,
         ),
-        (b"c0 connect own 1:\xff -> no_receiver\n", 0),
-        (b"c0 post 0 99:1 -> posted\n", 0),
-        (b"c0 post 0 18446744073709551615:1 -> posted\n", 0),
-        (b"c0 post 0 0: -> posted\n", 0),
-        (b"c0 post 0 1:{ -> posted\n", 0),
+        (b"c0 connect own 1:\xff -> no_receiver\n", 20),
+        (b"c0 post 0 99:1 -> posted\n", 20),
+        (b"c0 post 0 18446744073709551615:1 -> posted\n", 20),
+        (b"c0 post 0 0: -> posted\n", 20),
+        (b"c0 post 0 1:{ -> posted\n", 20),
         (
             b"c0 enter page aaaaaaaaaaaaaaaaaaaaaaaaaaaaaaaa 1:p -> context 0\n",
-            0,
+            20,
         ),
         (
             b"c0 enter page aaaaaaaaaaaaaaaaaaaaaaaaaaaaaaaa 2:/\xff -> context 0\n",
-            0,
+            20,
         ),
-        (b"c0 enter web 7 0 11:https://a.b -> context 0\n", 0),
-        (b"c0 enter web 7 0 9:file:///x -> context 0\n", 0),
-        (b"h0 host_ended cut -> done\n", 0),
+        (b"c0 enter web 7 0 11:https://a.b -> context 0\n", 20),
+        (b"c0 enter web 7 0 9:file:///x -> context 0\n", 20),
+        (b"h0 host_ended cut -> done\n", 20),
     ]
 }
 
@@ -115,9 +115,9 @@ fn texts_without_the_head_line(rt: HostRuntime) {
 
 #[test]
 fn texts_with_a_bad_line(rt: HostRuntime) {
-    for (lines, run) in bad_lines() {
+    for (lines, place) in bad_lines() {
         match behind_head(rt.alloc(), lines) {
-            Some(text) => assert!(rt; is_bad(rt.alloc(), &text, 20 + *run, JournalKind::Line)),
+            Some(text) => assert!(rt; is_bad(rt.alloc(), &text, *place, JournalKind::Line)),
             None => assert!(rt; false),
         }
     }
