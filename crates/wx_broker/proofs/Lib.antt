@@ -1,6 +1,10 @@
 pub mod TestsLater
 pub mod LivesLater
+pub mod WorkLater
+pub mod ClosedLater
 pub mod PortsLater
 pub mod RequestsLater
 pub mod NumbersLater
+pub mod HostsLater
 pub mod KeptLater
+pub mod ViewsLater

@@ -8,7 +8,7 @@ use Rattle.wx_context.specs.declared.contexts.Target.{Target}
 use Rattle.wx_external.specs.World.{WorldLists}
 use Rattle.wx_machine.specs.declared.sorts.Sort.{Sort}
 use Rattle.wx_machine.specs.declared.entries.Who.{Who}
-use Rattle.wx_machine.specs.declared.entries.Who.TheVariants.{Context as ByContext}
+use Rattle.wx_machine.specs.declared.entries.Who.TheVariants.{Context as ByContext, Host as ByHost}
 use Rattle.wx_machine.specs.declared.entries.Call.{Call}
 use Rattle.wx_machine.specs.declared.entries.Call.TheVariants.{Enter}
 use Rattle.wx_machine.specs.declared.entries.Answer.{Answer}
@@ -16,7 +16,7 @@ use Rattle.wx_machine.specs.declared.entries.Entry.{Entry}
 use Rattle.wx_machine.specs.Each.{EachAfter}
 use Rattle.wx_machine.specs.Contexts.{same_context, contexts, numbers, numbers_of, brought, is_enter, is_receiver, receivers_of, is_live, reaches_from, context_of, listens_of}
 use Rattle.wx_machine.specs.Channels.{is_among}
-use Rattle.wx_machine.specs.Answers.{FollowsMachine, answer_after}
+use Rattle.wx_machine.specs.Answers.{FollowsMachine, answer_after, may_make}
 use Rattle.wx_port.specs.Port.{are_apart}
 use Rattle.wx_one_shot.specs.Requests.{are_distinct}
 use Rattle.wx_broker.proofs.LivesLater.{among_passing}
@@ -26,12 +26,13 @@ use Rattle.wx_broker.proofs.TestsLater.{and_false, or_false, same_self, same_bac
 abbrev next : List Entry → ContextNo
 next past = record { 0 = contexts past }
 
-new_number : (world : WorldLists) (past : List Entry) (who : Who) (call : Call) (answer : Answer) → answer ≡ answer_after world past who call → numbers_of (brought who call answer) ≡ cond (is_enter call) (next past ∷ []) []
-new_number world past (ByContext d) (Enter x) answer h = rw h refl
-new_number world past who call answer h = refl
+new_number : (world : WorldLists) (past : List Entry) (who : Who) (call : Call) (answer : Answer) → may_make past who call ≡ true → answer ≡ answer_after world past who call → numbers_of (brought who call answer) ≡ cond (is_enter call) (next past ∷ []) []
+new_number world past (ByContext d) (Enter x) answer may h = rw h refl
+new_number world past (ByHost g) (Enter x) answer may h = absurd (true≢false (sym may))
+new_number world past who call answer may h = refl
 
 numbers_grow : (world : WorldLists) (past : List Entry) (e : Entry) → FollowsMachine world past e → numbers (e ∷ past) ≡ numbers past ++ cond (is_enter e.call) (next past ∷ []) []
-numbers_grow world past e follows = ap (λ ns. numbers past ++ ns) (new_number world past e.who e.call e.answer follows.answered)
+numbers_grow world past e follows = ap (λ ns. numbers past ++ ns) (new_number world past e.who e.call e.answer follows.may follows.answered)
 
 -- each number is below the count
 numbers_below : (world : WorldLists) (past : List Entry) → EachAfter (FollowsMachine world) past → (d : ContextNo) → is_among (numbers past) d ≡ true → d.0 < contexts past

@@ -1,6 +1,6 @@
 -- What an entry leaves of the table of channels.
-use Rattle.std.proofs.Common.{◌≡◌, ℕ, ◌+◌, ◌≤◌, List, [], ◌∷◌, ◌++◌, length, refl, ap, sym, ◌∙◌, Bool, true, false, cond, not, arith, subst, append-nil, map}
-use Rattle.std.specs.Prelude.{Option, Some, None, is_some, filter, slice_get, ◌&&◌, ◌||◌, ◌==◌}
+use Rattle.std.proofs.Common.{◌≡◌, ℕ, ◌≤◌, List, [], ◌∷◌, ◌++◌, length, refl, ap, sym, ◌∙◌, Bool, true, false, cond, not, arith, subst, append-nil, map}
+use Rattle.std.specs.Prelude.{Option, Some, None, is_some, option_to_list, filter, slice_get, ◌&&◌, ◌||◌, ◌==◌}
 use Rattle.std.specs.Option.{option_or, option_map}
 use Rattle.std.specs.List.{list_all, list_any}
 use Rattle.std.proofs.lemmas.Bool.{false≢true}
@@ -8,25 +8,29 @@ use Rattle.std.proofs.lemmas.Option.{slice_get_past, slice_get-map}
 use Rattle.std.proofs.lemmas.List.Elements.{filter_agree}
 use Rattle.wx_id.specs.declared.numbers.ChannelNo.{ChannelNo}
 use Rattle.wx_id.specs.declared.numbers.ContextNo.{ContextNo}
+use Rattle.wx_id.specs.declared.numbers.HostNo.{HostNo}
 use Rattle.wx_id.specs.declared.events.End.{End}
 use Rattle.wx_id.specs.declared.events.End.TheVariants.{Opener, Receiver, Neither}
 use Rattle.wx_context.specs.declared.contexts.Target.{Target}
 use Rattle.wx_machine.specs.declared.sorts.Sort.TheVariants.{Connection}
 use Rattle.wx_machine.specs.declared.entries.Who.{Who}
-use Rattle.wx_machine.specs.declared.entries.Who.TheVariants.{Context as ByContext}
+use Rattle.wx_machine.specs.declared.entries.Who.TheVariants.{Context as ByContext, Host as ByHost}
 use Rattle.wx_machine.specs.declared.entries.Call.{Call}
-use Rattle.wx_machine.specs.declared.entries.Call.TheVariants.{Connect, Disconnect, Leave}
+use Rattle.wx_machine.specs.declared.entries.Call.TheVariants.{Connect, ConnectNative, Disconnect, HostEnded, Leave}
 use Rattle.wx_machine.specs.declared.entries.Answer.{Answer}
 use Rattle.wx_machine.specs.declared.entries.Answer.TheVariants.{Channel as OnChannel, NoEffect, Done, Gone}
 use Rattle.wx_machine.specs.declared.entries.Entry.{Entry}
+use Rattle.wx_machine.specs.declared.entries.Reason.{Reason}
 use Rattle.wx_machine.specs.Contexts.{is_live, is_leave, receivers_of, same_context}
 use Rattle.wx_machine.specs.Channels.{Ends, opens, opened_by, channels, channel, is_among, end_in}
+use Rattle.wx_machine.specs.Hosts.{is_for_channel, work_of}
 use Rattle.wx_machine.specs.Closing.{is_one, leaving, ends_by, ends_channel, closed_at, is_closed}
 use Rattle.wx_machine.specs.Answers.{at_end}
 use Rattle.wx_port.specs.Port.{Port, is_other, end_of, is_open_port, closed, with_live, opened, left_by}
 use Rattle.wx_walks.proofs.EndsLater.{channels_more, channel_more}
 use Rattle.wx_broker.specs.Tables.{port_said, HasChannels, is_done}
 use Rattle.wx_broker.proofs.TestsLater.{or_false, and_true, not_not, same_is, has_some, any_passes, filter_where, filter_whole, filter_twice, all_weaker, all_fail, rows_length, rows_changed, rows_more, map_whole, shorter}
+use Rattle.wx_broker.proofs.WorkLater.{other_channel}
 use Rattle.wx_broker.proofs.LivesLater.{came, came_stays, live_came, live_stays, live_left, leave_entry, receivers_live}
 
 -- whether channel k is closed after one more entry
@@ -50,6 +54,7 @@ all_came past (Some ends) = list_all (came past) ends.receivers
 opened_came : (past now : List Entry) → ((d : ContextNo) → came past d ≡ true → came now d ≡ true) → (who : Who) (call : Call) (answer : Answer) → all_came now (opened_by past who call answer) ≡ true
 opened_came past now stays (ByContext c) (Connect target name) (OnChannel k) =
     all_weaker (is_live past) (came now) (λ d h. stays d (live_came past d h)) (receivers_of past c target Connection) (receivers_live past c target Connection)
+opened_came past now stays (ByContext c) (ConnectNative name) (OnChannel k) = refl
 opened_came past now stays who call answer = refl
 
 all_came_stay : (past now : List Entry) → ((d : ContextNo) → came past d ≡ true → came now d ≡ true) → (o : Option Ends) → all_came past o ≡ true → all_came now o ≡ true
@@ -97,13 +102,14 @@ channels_kept e past ports stays none ends has k =
     ∙ ap (λ cs. option_map (port_said (e ∷ past) k) (slice_get cs k)) (sym (channels_stay e past none))
 
 -- a channel that was not opened is not closed
-none_ends : (past : List Entry) (e : Entry) (k : ℕ) (who : Who) (call : Call) → ends_by past e k None who call ≡ false
-none_ends past e k (ByContext c) (Disconnect j) = by (j.0 == k)
+none_ends : (past : List Entry) (e : Entry) (k : ℕ) (who : Who) (call : Call) → length (channels past) ≤ k → ends_by past e k None who call ≡ false
+none_ends past e k (ByContext c) (Disconnect j) before = by (j.0 == k)
   where
     by : (b : Bool) → (b && false && is_live past c) ≡ false
     by true = refl
     by false = refl
-none_ends past e k who call = refl
+none_ends past e k (ByHost h) (HostEnded reason) before = other_channel past h k before
+none_ends past e k who call before = refl
 
 closed_later : (past : List Entry) (k : ℕ) → length (channels past) ≤ k → is_closed past k ≡ false
 closed_later [] k h = refl
@@ -113,20 +119,59 @@ closed_later (e ∷ past) k h =
     closed_more e past k
     ∙ ap (λ b. b || ends_channel past e k) (closed_later past k before)
     ∙ ap (λ o. ends_by past e k o e.who e.call) none
-    ∙ none_ends past e k e.who e.call
+    ∙ none_ends past e k e.who e.call before
 
--- the table after a connect that opens a channel to these receivers
+-- the table after an entry that opens a channel with these ends
+channels_grown : (e : Entry) (past : List Entry) (ends : Ends) (ports ports' : List Port) → is_leave e.call ≡ false → ((k : ℕ) → ends_channel past e k ≡ false) → opens past e ≡ Some ends → list_all (is_live past) ends.receivers ≡ true → ports' ≡ ports ++ opened ends.opener ends.receivers ∷ [] → HasChannels past ports → HasChannels (e ∷ past) ports'
+channels_grown e past ends ports ports' stays none opens_is lives grown has k =
+    rows_more (port_said past) (port_said (e ∷ past)) (channels past) ends ports ports' (opened ends.opener ends.receivers) grown
+    (λ j x at. port_kept e past j x stays (λ _. none j) at)
+    (made_same ends ends.receivers _ false _ (sym (filter_whole (is_live (e ∷ past)) ends.receivers live)) (sym open_now))
+    has k
+    ∙ ap (λ o. option_map (port_said (e ∷ past) k) (slice_get (channels past ++ option_to_list o) k)) (sym opens_is)
+  where
+    live : list_all (is_live (e ∷ past)) ends.receivers ≡ true
+    live = all_weaker (is_live past) (is_live (e ∷ past)) (λ d h. live_stays e past d stays (live_came past d h) ∙ h) ends.receivers lives
+
+    open_now : is_closed (e ∷ past) (length (channels past)) ≡ false
+    open_now =
+        closed_more e past (length (channels past))
+        ∙ ap (λ b. is_closed past (length (channels past)) || b) (none (length (channels past)))
+        ∙ or_false _
+        ∙ closed_later past (length (channels past)) (omega arith)
+
+-- after a connect that opens a channel to these receivers
 pub channels_opened : (past : List Entry) (c : ContextNo) (target : Target) (name : List ℕ) (k : ChannelNo) (ports ports' : List Port) → let e : Entry = record { who = ByContext c; call = Connect target name; answer = OnChannel k } in ports' ≡ ports ++ opened c (receivers_of past c target Connection) ∷ [] → HasChannels past ports → HasChannels (e ∷ past) ports'
 channels_opened past c target name k ports ports' grown has =
-    let e : Entry = record { who = ByContext c; call = Connect target name; answer = OnChannel k } in
-    let rs = receivers_of past c target Connection in
-    let ends : Ends = record { opener = c; receivers = rs } in
-    let live : list_all (is_live (e ∷ past)) rs ≡ true = all_weaker (is_live past) (is_live (e ∷ past)) (λ d h. live_stays e past d refl (live_came past d h) ∙ h) rs (receivers_live past c target Connection) in
-    let open_now : is_closed (e ∷ past) (length (channels past)) ≡ false = closed_more e past (length (channels past)) ∙ or_false _ ∙ closed_later past (length (channels past)) (omega arith) in
-    rows_more (port_said past) (port_said (e ∷ past)) (channels past) ends ports ports' (opened c rs) grown
-    (λ j x at. port_kept e past j x refl (λ _. refl) at)
-    (made_same ends rs _ false _ (sym (filter_whole (is_live (e ∷ past)) rs live)) (sym open_now))
-    has
+    channels_grown (record { who = ByContext c; call = Connect target name; answer = OnChannel k }) past (record { opener = c; receivers = receivers_of past c target Connection }) ports ports' refl (λ j. refl) refl (receivers_live past c target Connection) grown has
+
+-- after a connect that opens a channel to a native host
+pub channels_opened_native : (past : List Entry) (c : ContextNo) (name : List ℕ) (k : ChannelNo) (ports ports' : List Port) → let e : Entry = record { who = ByContext c; call = ConnectNative name; answer = OnChannel k } in ports' ≡ ports ++ opened c [] ∷ [] → HasChannels past ports → HasChannels (e ∷ past) ports'
+channels_opened_native past c name k ports ports' grown has =
+    channels_grown (record { who = ByContext c; call = ConnectNative name; answer = OnChannel k }) past (record { opener = c; receivers = [] }) ports ports' refl (λ j. refl) refl refl grown has
+
+abbrev pub ended_entry : HostNo → Reason → Answer → Entry
+ended_entry h reason answer = record { who = ByHost h; call = HostEnded reason; answer = answer }
+
+-- after the end of a host
+pub channels_ended : (past : List Entry) (h : HostNo) (reason : Reason) (answer : Answer) (ports ports' : List Port) → ((k : ℕ) → slice_get ports' k ≡ option_map (λ port. cond (is_for_channel k (work_of past h) && port.is_open) (closed port) port) (slice_get ports k)) → HasChannels past ports → HasChannels (ended_entry h reason answer ∷ past) ports'
+channels_ended past h reason answer ports ports' changed has k =
+    rows_changed (port_said past) (port_said (e ∷ past)) (λ k' port. cond (is_for_channel k' (work_of past h) && port.is_open) (closed port) port) (channels past) ports ports' changed each has k
+    ∙ ap (λ cs. option_map (port_said (e ∷ past) k) (slice_get cs k)) (sym (channels_stay e past refl))
+  where
+    e : Entry
+    e = ended_entry h reason answer
+
+    row : (ends : Ends) (live : List ContextNo) (w x : Bool) → cond (x && not w) (closed (made ends live w)) (made ends live w) ≡ made ends live (w || x)
+    row ends live true true = refl
+    row ends live true false = refl
+    row ends live false true = refl
+    row ends live false false = refl
+
+    each : (k' : ℕ) (ends : Ends) → channel past k' ≡ Some ends → cond (is_for_channel k' (work_of past h) && not (is_closed past k')) (closed (port_said past k' ends)) (port_said past k' ends) ≡ port_said (e ∷ past) k' ends
+    each k' ends at =
+        row ends (filter (is_live past) ends.receivers) (is_closed past k') (is_for_channel k' (work_of past h))
+        ∙ sym (made_same ends _ _ _ _ (lives_stay e past k' ends refl at) (closed_more e past k'))
 
 abbrev pub disconnect_entry : ContextNo → ChannelNo → Answer → Entry
 disconnect_entry c k answer = record { who = ByContext c; call = Disconnect k; answer = answer }

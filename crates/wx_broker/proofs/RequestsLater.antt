@@ -1,6 +1,6 @@
 -- What an entry leaves of the table of requests.
-use Rattle.std.proofs.Common.{◌≡◌, ℕ, ◌+◌, ◌≤◌, List, [], ◌∷◌, ◌++◌, length, refl, ap, sym, ◌∙◌, Bool, true, false, cond, not, arith, subst, append-nil, map, rules}
-use Rattle.std.specs.Prelude.{Option, Some, None, IfSome, is_some, filter, slice_get, ◌&&◌, ◌||◌, ◌==◌, nat_lt}
+use Rattle.std.proofs.Common.{◌≡◌, ℕ, ◌≤◌, List, [], ◌∷◌, ◌++◌, length, refl, ap, sym, ◌∙◌, Bool, true, false, cond, not, arith, subst, append-nil, map, rules}
+use Rattle.std.specs.Prelude.{Option, Some, None, IfSome, is_some, option_to_list, ◌<◌, filter, slice_get, ◌&&◌, ◌||◌, ◌==◌, nat_lt}
 use Rattle.std.specs.Option.{option_or, option_map}
 use Rattle.std.specs.List.{list_all, list_any}
 use Rattle.std.proofs.lemmas.Bool.{and_parts, not-true, false≢true}
@@ -8,12 +8,13 @@ use Rattle.std.proofs.lemmas.Option.{slice_get_past, slice_get-map}
 use Rattle.std.proofs.lemmas.List.Elements.{filter_agree}
 use Rattle.wx_id.specs.declared.numbers.RequestNo.{RequestNo}
 use Rattle.wx_id.specs.declared.numbers.ContextNo.{ContextNo}
+use Rattle.wx_id.specs.declared.numbers.HostNo.{HostNo}
 use Rattle.wx_context.specs.declared.contexts.Target.{Target}
 use Rattle.wx_machine.specs.declared.sorts.Sort.TheVariants.{Message}
 use Rattle.wx_machine.specs.declared.entries.Who.{Who}
-use Rattle.wx_machine.specs.declared.entries.Who.TheVariants.{Context as ByContext}
+use Rattle.wx_machine.specs.declared.entries.Who.TheVariants.{Context as ByContext, Host as ByHost}
 use Rattle.wx_machine.specs.declared.entries.Call.{Call}
-use Rattle.wx_machine.specs.declared.entries.Call.TheVariants.{Leave, Send, Reply, Decline}
+use Rattle.wx_machine.specs.declared.entries.Call.TheVariants.{Leave, Send, SendNative, Reply, Decline, HostSaid, HostEnded}
 use Rattle.wx_machine.specs.declared.entries.Answer.{Answer}
 use Rattle.wx_machine.specs.declared.entries.Answer.TheVariants.{Request as OnRequest, First, Done, Gone, TooLong}
 use Rattle.wx_machine.specs.declared.entries.Entry.{Entry}
@@ -21,14 +22,16 @@ use Rattle.wx_machine.specs.declared.entries.TheConstants.{LONGEST}
 use Rattle.wx_machine.specs.Contexts.{is_live, is_leave, receivers_of, same_context}
 use Rattle.wx_machine.specs.Channels.{is_among}
 use Rattle.wx_machine.specs.Requests.{Parties, asks, asked_by, requests, request, is_asked}
+use Rattle.wx_machine.specs.Hosts.{is_for_request, work_of}
 use Rattle.wx_machine.specs.Settling.{is_decline, has_declined, is_open_to, has_open, settles_by, ends_request, settled_at, is_settled}
 use Rattle.wx_machine.specs.Answers.{on_request, is_late, where_short}
 use Rattle.wx_one_shot.specs.declared.requests.Standing.TheVariants.{Open, Late, Stranger}
 use Rattle.wx_one_shot.specs.Requests.{Request, asked, settled, is_other, left_to, without, left_by, standing_at, is_unsettled_at}
 use Rattle.wx_walks.proofs.EndsLater.{place_more, same_context_is}
 use Rattle.wx_walks.proofs.RequestsLater.{requests_more}
-use Rattle.wx_broker.specs.Tables.{request_said, HasRequests, AreAwaited, is_done, is_first, on_standing}
+use Rattle.wx_broker.specs.Tables.{request_said, HasRequests, IsAwaited, AreAwaited, is_done, is_first, on_standing}
 use Rattle.wx_broker.proofs.TestsLater.{or_false, and_false, and_true, same_back, same_self, same_is, has_some, nil_test, any_passes, filter_where, filter_whole, filter_twice, all_weaker, all_fail, rows_length, rows_changed, rows_more, map_whole, shorter}
+use Rattle.wx_broker.proofs.WorkLater.{other_request}
 use Rattle.wx_broker.proofs.LivesLater.{came, came_stays, live_came, live_stays, live_left, leave_entry, among_passing, receivers_live}
 
 -- whether request r is settled after one more entry
@@ -52,6 +55,7 @@ all_came past (Some parties) = list_all (came past) parties.receivers
 asked_came : (past now : List Entry) → ((d : ContextNo) → came past d ≡ true → came now d ≡ true) → (who : Who) (call : Call) (answer : Answer) → all_came now (asked_by past who call answer) ≡ true
 asked_came past now stays (ByContext c) (Send target text) (OnRequest r) =
     all_weaker (is_live past) (came now) (λ d h. stays d (live_came past d h)) (receivers_of past c target Message) (receivers_live past c target Message)
+asked_came past now stays (ByContext c) (SendNative name text) (OnRequest r) = refl
 asked_came past now stays who call answer = refl
 
 all_came_stay : (past now : List Entry) → ((d : ContextNo) → came past d ≡ true → came now d ≡ true) → (o : Option Parties) → all_came past o ≡ true → all_came now o ≡ true
@@ -102,30 +106,32 @@ requests_kept e past rows stays none asks_none ends has r =
     ∙ ap (λ rs. option_map (request_said (e ∷ past) r) (slice_get rs r)) (sym (requests_stay e past asks_none))
 
 -- a request that was not made is not settled, and nobody declined it
-none_settles : (past : List Entry) (e : Entry) (r : ℕ) (who : Who) (call : Call) → settles_by past e r None who call ≡ false
-none_settles past e r (ByContext c) (Reply j text) = by (j.0 == r)
+none_settles : (past : List Entry) (e : Entry) (r : ℕ) (who : Who) (call : Call) → length (requests past) ≤ r → settles_by past e r None who call ≡ false
+none_settles past e r (ByContext c) (Reply j text) before = by (j.0 == r)
   where
     by : (b : Bool) → (b && false && is_open_to past r c && not (nat_lt LONGEST (length text))) ≡ false
     by true = refl
     by false = refl
-none_settles past e r (ByContext c) (Decline j) = by (j.0 == r)
+none_settles past e r (ByContext c) (Decline j) before = by (j.0 == r)
   where
     by : (b : Bool) → (b && false && is_live past c && not (has_open (e ∷ past) r None)) ≡ false
     by true = refl
     by false = refl
-none_settles past e r who call = refl
+none_settles past e r (ByHost h) (HostSaid text) before = other_request past h r before
+none_settles past e r (ByHost h) (HostEnded reason) before = other_request past h r before
+none_settles past e r who call before = refl
 
 earlier : (e : Entry) (past : List Entry) (r : ℕ) → length (requests (e ∷ past)) ≤ r → length (requests past) ≤ r
 earlier e past r h = shorter (is_some (asks past e)) (length (requests past)) (length (requests (e ∷ past))) r (requests_more e past) h
 
-settled_later : (past : List Entry) (r : ℕ) → length (requests past) ≤ r → is_settled past r ≡ false
+pub settled_later : (past : List Entry) (r : ℕ) → length (requests past) ≤ r → is_settled past r ≡ false
 settled_later [] r h = refl
 settled_later (e ∷ past) r h =
     let before : length (requests past) ≤ r = earlier e past r h in
     settled_more e past r
     ∙ ap (λ b. b || ends_request past e r) (settled_later past r before)
     ∙ ap (λ o. settles_by past e r o e.who e.call) (slice_get_past (requests past) r before)
-    ∙ none_settles past e r e.who e.call
+    ∙ none_settles past e r e.who e.call before
 
 declined_later : (past : List Entry) (r : ℕ) (d : ContextNo) → length (requests past) ≤ r → has_declined past r d ≡ false
 declined_later [] r d h = refl
@@ -133,22 +139,54 @@ declined_later (e ∷ past) r d h =
     let before : length (requests past) ≤ r = earlier e past r h in
     rw (declined_later past r d before, slice_get_past (requests past) r before) (and_false _)
 
--- the table after a send that makes a request to these receivers
+-- the table after an entry that makes a request with these parties
+requests_grown : (e : Entry) (past : List Entry) (parties : Parties) (rows rows' : List Request) → is_leave e.call ≡ false → ((r : ℕ) → is_decline r e.call ≡ false) → ((r : ℕ) → ends_request past e r ≡ false) → asks past e ≡ Some parties → list_all (is_live past) parties.receivers ≡ true → rows' ≡ rows ++ asked parties.asker parties.receivers ∷ [] → HasRequests past rows → HasRequests (e ∷ past) rows'
+requests_grown e past parties rows rows' stays none ends asks_is lives grown has r =
+    rows_more (request_said past) (request_said (e ∷ past)) (requests past) parties rows rows' (asked parties.asker parties.receivers) grown
+    (λ j x at. request_kept e past j x stays (none j) (ends j) at)
+    (made_same parties parties.receivers _ false _ (sym (filter_whole (is_open_to (e ∷ past) (length (requests past))) parties.receivers open_now)) (sym unsettled))
+    has r
+    ∙ ap (λ o. option_map (request_said (e ∷ past) r) (slice_get (requests past ++ option_to_list o) r)) (sym asks_is)
+  where
+    open_now : list_all (is_open_to (e ∷ past) (length (requests past))) parties.receivers ≡ true
+    open_now =
+        all_weaker (is_live past) (is_open_to (e ∷ past) (length (requests past)))
+        (λ d h. ap (λ b. b && not (has_declined (e ∷ past) (length (requests past)) d)) (live_stays e past d stays (live_came past d h) ∙ h) ∙ ap not (declined_stay e past (length (requests past)) d (none (length (requests past))) ∙ declined_later past (length (requests past)) d (omega arith)))
+        parties.receivers lives
+
+    unsettled : is_settled (e ∷ past) (length (requests past)) ≡ false
+    unsettled =
+        settled_more e past (length (requests past))
+        ∙ ap (λ b. is_settled past (length (requests past)) || b) (ends (length (requests past)))
+        ∙ or_false _
+        ∙ settled_later past (length (requests past)) (omega arith)
+
+-- after a send that makes a request to these receivers
 pub requests_asked : (past : List Entry) (c : ContextNo) (target : Target) (text : List ℕ) (r : RequestNo) (rows rows' : List Request) → let e : Entry = record { who = ByContext c; call = Send target text; answer = OnRequest r } in rows' ≡ rows ++ asked c (receivers_of past c target Message) ∷ [] → HasRequests past rows → HasRequests (e ∷ past) rows'
 requests_asked past c target text r rows rows' grown has =
-    let e : Entry = record { who = ByContext c; call = Send target text; answer = OnRequest r } in
-    let rs = receivers_of past c target Message in
-    let n = length (requests past) in
-    let parties : Parties = record { asker = c; receivers = rs } in
-    let open_now : list_all (is_open_to (e ∷ past) n) rs ≡ true =
-    all_weaker (is_live past) (is_open_to (e ∷ past) n)
-    (λ d h. ap (λ b. b && not (has_declined (e ∷ past) n d)) (live_stays e past d refl (live_came past d h) ∙ h) ∙ ap not (declined_stay e past n d refl ∙ declined_later past n d (omega arith)))
-    rs (receivers_live past c target Message) in
-    let unsettled : is_settled (e ∷ past) n ≡ false = settled_more e past n ∙ or_false _ ∙ settled_later past n (omega arith) in
-    rows_more (request_said past) (request_said (e ∷ past)) (requests past) parties rows rows' (asked c rs) grown
-    (λ j x at. request_kept e past j x refl refl refl at)
-    (made_same parties rs _ false _ (sym (filter_whole (is_open_to (e ∷ past) n) rs open_now)) (sym unsettled))
-    has
+    requests_grown (record { who = ByContext c; call = Send target text; answer = OnRequest r }) past (record { asker = c; receivers = receivers_of past c target Message }) rows rows' refl (λ j. refl) (λ j. refl) refl (receivers_live past c target Message) grown has
+
+-- after a send that makes a request to a native host
+pub requests_asked_native : (past : List Entry) (c : ContextNo) (name text : List ℕ) (r : RequestNo) (rows rows' : List Request) → let e : Entry = record { who = ByContext c; call = SendNative name text; answer = OnRequest r } in rows' ≡ rows ++ asked c [] ∷ [] → HasRequests past rows → HasRequests (e ∷ past) rows'
+requests_asked_native past c name text r rows rows' grown has =
+    requests_grown (record { who = ByContext c; call = SendNative name text; answer = OnRequest r }) past (record { asker = c; receivers = [] }) rows rows' refl (λ j. refl) (λ j. refl) refl refl grown has
+
+-- after an entry of host h that settles the request that it works for
+pub requests_worked : (e : Entry) (past : List Entry) (h : HostNo) (rows rows' : List Request) → is_leave e.call ≡ false → ((r : ℕ) → is_decline r e.call ≡ false) → asks past e ≡ None → ((r : ℕ) → ends_request past e r ≡ is_for_request r (work_of past h)) → ((r : ℕ) → slice_get rows' r ≡ option_map (λ row. cond (is_for_request r (work_of past h) && not row.is_settled) (settled row) row) (slice_get rows r)) → HasRequests past rows → HasRequests (e ∷ past) rows'
+requests_worked e past h rows rows' stays none asks_none ends changed has r =
+    rows_changed (request_said past) (request_said (e ∷ past)) (λ r' row. cond (is_for_request r' (work_of past h) && not row.is_settled) (settled row) row) (requests past) rows rows' changed each has r
+    ∙ ap (λ rs. option_map (request_said (e ∷ past) r) (slice_get rs r)) (sym (requests_stay e past asks_none))
+  where
+    row : (parties : Parties) (left : List ContextNo) (w x : Bool) → cond (x && not w) (settled (made parties left w)) (made parties left w) ≡ made parties left (w || x)
+    row parties left true true = refl
+    row parties left true false = refl
+    row parties left false true = refl
+    row parties left false false = refl
+
+    each : (r' : ℕ) (parties : Parties) → request past r' ≡ Some parties → cond (is_for_request r' (work_of past h) && not (is_settled past r')) (settled (request_said past r' parties)) (request_said past r' parties) ≡ request_said (e ∷ past) r' parties
+    each r' parties at =
+        row parties (filter (is_open_to past r') parties.receivers) (is_settled past r') (is_for_request r' (work_of past h))
+        ∙ sym (made_same parties _ _ _ _ (open_stays e past r' parties stays (none r') at) (settled_more e past r' ∙ ap (λ b. is_settled past r' || b) (ends r')))
 
 abbrev pub reply_entry : ContextNo → RequestNo → List ℕ → Answer → Entry
 reply_entry c r text answer = record { who = ByContext c; call = Reply r text; answer = answer }
@@ -279,7 +317,7 @@ done_is false true shut declined = refl
 done_is false false shut declined = refl
 
 -- what a decline makes of its request
-row_declined : (c : ContextNo) (parties : Parties) (may may' : ContextNo → Bool) (is live declined w : Bool) → may c ≡ (live && not declined) → filter may' parties.receivers ≡ cond (is && live) (filter (is_other c) (filter may parties.receivers)) (filter may parties.receivers) → (w ≡ false → false ≡ (length (filter may parties.receivers) == 0)) → cond ((is && (live && not declined) && not w) && true) (without c (made parties (filter may parties.receivers) w)) (made parties (filter may parties.receivers) w) ≡ made parties (filter may' parties.receivers) (w || (is && live && not (list_any may' parties.receivers)))
+row_declined : (c : ContextNo) (parties : Parties) (may may' : ContextNo → Bool) (is live declined w : Bool) → may c ≡ (live && not declined) → filter may' parties.receivers ≡ cond (is && live) (filter (is_other c) (filter may parties.receivers)) (filter may parties.receivers) → (is ≡ true → w ≡ false → false ≡ (length (filter may parties.receivers) == 0)) → cond ((is && (live && not declined) && not w) && true) (without c (made parties (filter may parties.receivers) w)) (made parties (filter may parties.receivers) w) ≡ made parties (filter may' parties.receivers) (w || (is && live && not (list_any may' parties.receivers)))
 row_declined c parties may may' true true true true here fewer waits = refl
 row_declined c parties may may' true true false true here fewer waits = refl
 row_declined c parties may may' true false declined true here fewer waits = refl
@@ -291,7 +329,7 @@ row_declined c parties may may' true true true false here fewer waits =
     let left = filter may parties.receivers in
     let none : is_among left c ≡ false = among_passing may parties.receivers c ∙ ap (λ b. b && is_among parties.receivers c) here in
     let whole : filter (is_other c) left ≡ left = filter_whole (is_other c) left (all_fail (λ d. same_context d c) left none) in
-    rw (any_passes may' parties.receivers, fewer, whole) (ap (made parties left) (waits refl ∙ nil_test left))
+    rw (any_passes may' parties.receivers, fewer, whole) (ap (made parties left) (waits refl refl ∙ nil_test left))
 
 exchange : (p q : ContextNo → Bool) (c d : ContextNo) → (same_context c d && p d && q d) ≡ (same_context c d && p c && q c)
 exchange p q c d = by (same_context c d) refl
@@ -345,12 +383,17 @@ open_declined past c j answer r parties same at =
     by true false = filter_agree (fewer true false) (is_open_to past r) (λ d. dead (is_live past d) (has_declined past r d) (same_context c d) true) parties.receivers
     by false live = filter_agree (fewer false live) (is_open_to past r) (λ d. none (is_live past d) (has_declined past r d) (same_context c d) live) parties.receivers
 
--- a request that is not settled still has a receiver that may reply
-still_waits : (past : List Entry) (rows : List Request) (r : ℕ) (parties : Parties) → HasRequests past rows → AreAwaited rows → request past r ≡ Some parties → is_settled past r ≡ false → false ≡ (length (filter (is_open_to past r) parties.receivers) == 0)
-still_waits past rows r parties has awaited at unsettled =
-    let row : IfSome (Some (request_said past r parties)) (λ row. row.is_settled ≡ (length row.still_open == 0)) =
-    subst (λ o. IfSome o (λ row. row.is_settled ≡ (length row.still_open == 0))) (has r ∙ ap (option_map (request_said past r)) at) (awaited r) in
-    rw unsettled at row
+-- one whom a request was sent to is one of its receivers
+some_among : (cs : List ContextNo) (c : ContextNo) → is_among cs c ≡ true → 0 < length cs
+some_among [] c h = absurd (false≢true h)
+some_among (d ∷ cs) c h = omega arith
+
+-- a request that was sent to one, and is not settled, still has a receiver that may reply
+still_waits : (past : List Entry) (rows : List Request) (r : ℕ) (parties : Parties) (c : ContextNo) → HasRequests past rows → AreAwaited rows → request past r ≡ Some parties → is_among parties.receivers c ≡ true → is_settled past r ≡ false → false ≡ (length (filter (is_open_to past r) parties.receivers) == 0)
+still_waits past rows r parties c has awaited at among unsettled =
+    let row : IfSome (Some (request_said past r parties)) IsAwaited =
+    subst (λ o. IfSome o IsAwaited) (has r ∙ ap (option_map (request_said past r)) at) (awaited r) in
+    rw unsettled at (row (some_among parties.receivers c among))
 
 -- the table after a decline
 pub requests_declined : (past : List Entry) (c : ContextNo) (j : RequestNo) (answer : Answer) (rows rows' : List Request) → answer ≡ cond (is_live past c) (on_request (is_asked (request past j.0) c) (is_late past j.0 c) Done) Gone → ((r : ℕ) → slice_get rows' r ≡ option_map (λ row. cond (is_done answer && (j.0 == r)) (without c row) row) (slice_get rows r)) → HasRequests past rows → AreAwaited rows → HasRequests (decline_entry c j answer ∷ past) rows'
@@ -375,47 +418,49 @@ requests_declined past c j answer rows rows' answered changed has awaited r =
             settled_more e past r' ∙ ap (λ o. is_settled past r' || settles_by past e r' o (ByContext c) (Decline j)) at
             ∙ ap (λ b. is_settled past r' || (b && is_among parties.receivers c && is_live past c && not (list_any (is_open_to (e ∷ past) r') parties.receivers))) same in
             ap (λ b. cond (b && true) (without c (request_said past r' parties)) (request_said past r' parties)) here
-            ∙ row_declined c parties (is_open_to past r') (is_open_to (e ∷ past) r') (is_among parties.receivers c) (is_live past c) (has_declined past r' c) (is_settled past r') refl (open_declined past c j answer r' parties same at) (still_waits past rows r' parties has awaited at)
+            ∙ row_declined c parties (is_open_to past r') (is_open_to (e ∷ past) r') (is_among parties.receivers c) (is_live past c) (has_declined past r' c) (is_settled past r') refl (open_declined past c j answer r' parties same at) (still_waits past rows r' parties c has awaited at)
             ∙ ap (made parties (filter (is_open_to (e ∷ past) r') parties.receivers)) (sym settles)
         by false same =
             ap (λ b. cond b (without c (request_said past r' parties)) (request_said past r' parties)) (and_false (is_done answer))
             ∙ request_kept e past r' parties refl same (ap (λ b. b && is_asked (request past r') c && is_live past c && not (has_open (e ∷ past) r' (request past r'))) same) at
 
--- Rows that are settled exactly where nobody may still reply.
+-- Rows that are settled exactly where none of their receivers may still reply.
 
-abbrev pub Awaits : Request → Type 0
-Awaits row = row.is_settled ≡ (length row.still_open == 0)
-
-pub awaited_changed : (change : ℕ → Request → Request) (rows rows' : List Request) → ((r : ℕ) (row : Request) → Awaits row → Awaits (change r row)) → ((r : ℕ) → slice_get rows' r ≡ option_map (change r) (slice_get rows r)) → AreAwaited rows → AreAwaited rows'
+pub awaited_changed : (change : ℕ → Request → Request) (rows rows' : List Request) → ((r : ℕ) (row : Request) → IsAwaited row → IsAwaited (change r row)) → ((r : ℕ) → slice_get rows' r ≡ option_map (change r) (slice_get rows r)) → AreAwaited rows → AreAwaited rows'
 awaited_changed change rows rows' stays changed awaited r = rw (changed r) (by (slice_get rows r) (awaited r))
   where
-    by : (o : Option Request) → IfSome o Awaits → IfSome (option_map (change r) o) Awaits
+    by : (o : Option Request) → IfSome o IsAwaited → IfSome (option_map (change r) o) IsAwaited
     by None h = tt
     by (Some row) h = stays r row h
 
-pub awaited_settled : (b : Bool) (row : Request) → Awaits row → Awaits (cond b (settled row) row)
-awaited_settled true row h = sym (same_self 0)
+pub awaited_settled : (b : Bool) (row : Request) → IsAwaited row → IsAwaited (cond b (settled row) row)
+awaited_settled true row h = λ _. sym (same_self 0)
 awaited_settled false row h = h
 
-pub awaited_without : (b : Bool) (c : ContextNo) (row : Request) → Awaits row → Awaits (cond b (without c row) row)
-awaited_without true c row h = refl
+pub awaited_without : (b : Bool) (c : ContextNo) (row : Request) → IsAwaited row → IsAwaited (cond b (without c row) row)
+awaited_without true c row h = λ _. refl
 awaited_without false c row h = h
 
 pub awaited_left : (c : ContextNo) (rows : List Request) → AreAwaited rows → AreAwaited (map (left_by c) rows)
 awaited_left c rows awaited = awaited_changed (λ _ row. left_by c row) rows (map (left_by c) rows) (λ r row h. by row h row.is_settled (same_context row.asker c) (is_among row.receivers c)) (λ r. slice_get-map (left_by c) rows r) awaited
   where
-    by : (row : Request) → Awaits row → (b s a : Bool) → Awaits (cond b row (cond s (settled row) (cond a (without c row) row)))
+    by : (row : Request) → IsAwaited row → (b s a : Bool) → IsAwaited (cond b row (cond s (settled row) (cond a (without c row) row)))
     by row h true s a = h
-    by row h false true a = sym (same_self 0)
-    by row h false false true = refl
+    by row h false true a = λ _. sym (same_self 0)
+    by row h false false true = λ _. refl
     by row h false false false = h
 
-pub awaited_asked : (c : ContextNo) (rs : List ContextNo) (rows rows' : List Request) → has_some rs ≡ true → rows' ≡ rows ++ asked c rs ∷ [] → AreAwaited rows → AreAwaited rows'
-awaited_asked c rs rows rows' some grown awaited r =
+-- a new request may be replied to by each of its receivers, where it has some
+asked_awaited : (c : ContextNo) (rs : List ContextNo) → IsAwaited (asked c rs)
+asked_awaited c [] some = absurd (omega (arith, some))
+asked_awaited c (d ∷ rs) some = sym (nil_test (d ∷ rs))
+
+pub awaited_asked : (c : ContextNo) (rs : List ContextNo) (rows rows' : List Request) → rows' ≡ rows ++ asked c rs ∷ [] → AreAwaited rows → AreAwaited rows'
+awaited_asked c rs rows rows' grown awaited r =
     rw (grown, place_more (λ o. o) rows (Some (asked c rs)) r) (by (length rows == r))
   where
-    by : (b : Bool) → IfSome (cond (b && true) (Some (asked c rs)) (slice_get rows r)) Awaits
-    by true = ap not (sym some) ∙ sym (nil_test rs)
+    by : (b : Bool) → IfSome (cond (b && true) (Some (asked c rs)) (slice_get rows r)) IsAwaited
+    by true = asked_awaited c rs
     by false = awaited r
 
 -- the answer on a request by the table is the machine's, to one who lives

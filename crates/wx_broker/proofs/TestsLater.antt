@@ -47,6 +47,10 @@ pub shorter : (b : Bool) (m n k : ℕ) → n ≡ cond b (m + 1) m → n ≤ k �
 shorter true m n k e h = omega (arith, e, h)
 shorter false m n k e h = omega (arith, e, h)
 
+pub grown_or_same : (b : Bool) (m n : ℕ) → n ≡ cond b (m + 1) m → m ≤ n
+grown_or_same true m n e = omega (arith, e)
+grown_or_same false m n e = omega (arith, e)
+
 -- the list has an element
 abbrev pub has_some : {X : Type 0} → List X → Bool
 has_some [] = false
@@ -111,6 +115,12 @@ all_fail p (x ∷ xs) h = by (all_fail p xs) (p x) h
     by rest true h = absurd (true≢false h)
     by rest false h = rest h
 
+-- past the end nothing stands
+pub outside : {X : Type 0} (xs : List X) (i : ℕ) → slice_get xs i ≡ None → length xs ≤ i
+outside [] i e = omega arith
+outside (x ∷ xs) zero e = absurd (none-some x (sym e))
+outside (x ∷ xs) (suc i) e = let rest : length xs ≤ i = outside xs i e in omega (arith, rest)
+
 -- Rows by number: each says what an element of a list is.
 
 -- they are as many
@@ -168,3 +178,23 @@ row_changed {B} change rows rows' k b h there changed j = rw h (by (slice_get ro
 -- and stays where it does not
 pub row_stays : {B : Type 0} (change : B → B) (rows : List B) (k : ℕ) (b : Bool) → b ≡ false → (j : ℕ) → slice_get rows j ≡ option_map (λ r. cond (b && (k == j)) (change r) r) (slice_get rows j)
 row_stays change rows k b h j = rw h (map_whole (slice_get rows j))
+
+-- a row is changed where it passes a test
+pub where_set : {B : Type 0} (test : B → Bool) (change : B → B) (rows rows' : List B) (k : ℕ) (row : B) → slice_get rows k ≡ Some row → test row ≡ true → rows' ≡ set rows k (change row) → (j : ℕ) → slice_get rows' j ≡ option_map (λ r. cond ((k == j) && test r) (change r) r) (slice_get rows j)
+where_set {B} test change rows rows' k row at passes changed j =
+    ap (λ l. slice_get l j) (changed ∙ ap (set rows k) (ap (λ b. cond b (change row) row) (sym passes)))
+    ∙ row_set (λ r. cond (test r) (change r) r) rows k row j at
+    ∙ both (k == j)
+  where
+    both : (b : Bool) → option_map (λ r. cond b (cond (test r) (change r) r) r) (slice_get rows j) ≡ option_map (λ r. cond (b && test r) (change r) r) (slice_get rows j)
+    both true = refl
+    both false = refl
+
+-- and stays where it does not
+pub where_stays : {B : Type 0} (test : B → Bool) (change : B → B) (rows : List B) (k : ℕ) → ((row : B) → slice_get rows k ≡ Some row → test row ≡ false) → (j : ℕ) → slice_get rows j ≡ option_map (λ r. cond ((k == j) && test r) (change r) r) (slice_get rows j)
+where_stays {B} test change rows k fails j = by (k == j) refl (slice_get rows j) refl
+  where
+    by : (b : Bool) → (k == j) ≡ b → (o : Option B) → slice_get rows j ≡ o → o ≡ option_map (λ r. cond (b && test r) (change r) r) o
+    by b same None at = refl
+    by true same (Some row) at = ap (λ t. Some (cond t (change row) row)) (sym (fails row (ap (slice_get rows) (same_is k j same) ∙ at)))
+    by false same (Some row) at = refl

@@ -1,22 +1,24 @@
 -- How the tables of channels and requests tell a journal.
-use Rattle.std.specs.Prelude.{◌≡◌, ℕ, length, List, [], Bool, true, false, not, cond, reverse, filter, slice_get, IfSome, ◌==◌}
+use Rattle.std.specs.Prelude.{◌≡◌, ◌<◌, ℕ, length, List, [], Bool, true, false, not, cond, Option, Some, None, reverse, filter, slice_get, IfSome, ◌==◌}
 use Rattle.std.specs.Option.{option_map}
 use Rattle.wx_external.specs.World.{WorldLists}
 use Rattle.wx_machine.specs.declared.entries.Call.{Call}
-use Rattle.wx_machine.specs.declared.entries.Call.TheVariants.{Enter, Listen, Connect, Post, Send, Take}
+use Rattle.wx_machine.specs.declared.entries.Call.TheVariants.{Enter, Listen, Connect, Post, Send, Take, ConnectNative, SendNative, HostTake}
 use Rattle.wx_machine.specs.declared.entries.Answer.{Answer}
-use Rattle.wx_machine.specs.declared.entries.Answer.TheVariants.{Channel as OnChannel, Request as OnRequest, Done, First, Late as TooLate, NotYours}
+use Rattle.wx_machine.specs.declared.entries.Answer.TheVariants.{Channel as OnChannel, Request as OnRequest, Done, Gone, First, Late as TooLate, NotYours, PortClosed, Passed, Ignored}
 use Rattle.wx_machine.specs.declared.entries.Entry.{Entry}
+use Rattle.wx_machine.specs.declared.work.Work.{Work}
+use Rattle.wx_machine.specs.declared.work.Work.TheVariants.{Channel as ForChannel, Request as ForRequest}
 use Rattle.wx_machine.specs.Contexts.{is_live}
 use Rattle.wx_machine.specs.Channels.{Ends, channel}
 use Rattle.wx_machine.specs.Closing.{is_closed}
 use Rattle.wx_machine.specs.Requests.{Parties, request}
 use Rattle.wx_machine.specs.Settling.{is_settled, is_open_to}
 use Rattle.wx_machine.specs.Answers.{IsLegal}
-use Rattle.wx_port.specs.Port.{Port}
+use Rattle.wx_port.specs.Port.{Port, is_open_port}
 use Rattle.wx_one_shot.specs.declared.requests.Standing.{Standing}
 use Rattle.wx_one_shot.specs.declared.requests.Standing.TheVariants.{Open, Late, Stranger}
-use Rattle.wx_one_shot.specs.Requests.{Request}
+use Rattle.wx_one_shot.specs.Requests.{Request, is_settled_at}
 
 -- channel k, which has these ends, as the journal tells it
 abbrev pub port_said : List Entry → ℕ → Ends → Port
@@ -44,9 +46,12 @@ HasChannels past ports = (k : ℕ) → slice_get ports k ≡ option_map (port_sa
 abbrev pub HasRequests : List Entry → List Request → Type 0
 HasRequests past rows = (r : ℕ) → slice_get rows r ≡ option_map (request_said past r) (request past r)
 
--- each request is settled exactly where nobody may still reply
+-- a request that has receivers, and no host in their place, is settled exactly where none of them may still reply
+abbrev pub IsAwaited : Request → Type 0
+IsAwaited row = 0 < length row.receivers → row.is_settled ≡ (length row.still_open == 0)
+
 abbrev pub AreAwaited : List Request → Type 0
-AreAwaited rows = (r : ℕ) → IfSome (slice_get rows r) (λ row. row.is_settled ≡ (length row.still_open == 0))
+AreAwaited rows = (r : ℕ) → IfSome (slice_get rows r) IsAwaited
 
 -- the journal is legal, and the tables tell it
 pub record IsKept (world : WorldLists) (journal : List Entry) (ports : List Port) (rows : List Request) : Type 0 where
@@ -79,7 +84,33 @@ is_quiet (Connect target name) answer = not (is_channel answer)
 is_quiet (Post k text) answer = true
 is_quiet (Send target text) answer = not (is_request answer)
 is_quiet Take answer = true
+is_quiet (ConnectNative name) answer = not (is_channel answer)
+is_quiet (SendNative name text) answer = not (is_request answer)
+is_quiet HostTake answer = true
 is_quiet _ answer = false
+
+-- the number of what a host works for is below these counts of channels and requests
+abbrev pub IsWithin : ℕ → ℕ → Option Work → Type 0
+IsWithin channels requests None = Unit {0}
+IsWithin channels requests (Some (ForChannel k)) = k.0 < channels
+IsWithin channels requests (Some (ForRequest r)) = r.0 < requests
+
+-- a fact of the number of the request that a host works for
+abbrev pub IfRequest : Option Work → (ℕ → Type 0) → Type 0
+IfRequest (Some (ForRequest r)) P = P r.0
+IfRequest _ P = Unit {0}
+
+-- by the tables, no text comes any more for what a host works for
+abbrev pub is_over_at : List Port → List Request → Option Work → Bool
+is_over_at ports rows None = false
+is_over_at ports rows (Some (ForChannel k)) = not (is_open_port (slice_get ports k.0))
+is_over_at ports rows (Some (ForRequest r)) = is_settled_at (slice_get rows r.0)
+
+-- the answer to what a host says, by what it works for and whether that is over
+abbrev pub said_at : Bool → Option Work → Answer
+said_at over None = Gone
+said_at over (Some (ForChannel k)) = cond over PortClosed Passed
+said_at over (Some (ForRequest r)) = cond over Ignored Passed
 
 -- the answer on a request, by what the caller is to it
 abbrev pub on_standing : Standing → Answer → Answer

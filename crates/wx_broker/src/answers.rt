@@ -247,7 +247,7 @@ pub fn is_first(answer: Answer) -> bool
 }
 
 /// That answer, unless the text is too long.
-fn where_short(text: &JsonText, answer: Answer) -> Answer
+pub fn where_short(text: &JsonText, answer: Answer) -> Answer
     ensures { result ≡ where_short text.now answer }
 {
     if text.len() > LONGEST {

@@ -23,11 +23,11 @@ use wx_walks::contexts;
 /// with, the journal's entries, and how many more have room; the journal is always legal, and the tables tell it.
 #[derive(Drop)]
 pub struct Broker {
-    world: World,
-    journal: Journal,
-    ports: Ports,
-    requests: Requests,
-    alloc: Global,
+    pub(crate) world: World,
+    pub(crate) journal: Journal,
+    pub(crate) ports: Ports,
+    pub(crate) requests: Requests,
+    pub(crate) alloc: Global,
 }
 
 impl Model for Broker {
@@ -57,7 +57,7 @@ impl Broker {
     }
 
     /// Appends an entry that changes no table. It comes back where memory was refused.
-    fn append(&mut self, e: Entry) -> Result<(), Entry>
+    pub(crate) fn append(&mut self, e: Entry) -> Result<(), Entry>
         requires follows { FollowsMachine self.old.world (reverse self.old.entries) e }
         requires quiet { IsTrue (is_quiet e.call e.answer) }
         ensures ok { OnOk result (self.new.entries ≡ self.old.entries ++ e ∷ []) }
@@ -399,6 +399,22 @@ impl Broker {
         ensures { result ≡ contexts (reverse self.now.entries) }
     {
         contexts::count(self.journal.entries())
+    }
+
+    /// Makes room for so many more entries; nothing else is changed.
+    pub fn reserve(&mut self, n: u64) -> Result<(), NoMemory>
+        ensures same { Stays self.old self.new }
+        ensures ok { OnOk result (n ≤ self.new.spare) }
+        ensures kept { self.old.spare ≤ self.new.spare }
+    {
+        self.journal.reserve(n)
+    }
+
+    /// How many more entries have room.
+    pub fn spare(&self) -> u64
+        ensures { result ≡ self.now.spare }
+    {
+        self.journal.spare()
     }
 
     /// The journal: each entry has the machine's answer after those before it.

@@ -1,7 +1,7 @@
 //! What an entry that was not kept gives back to the caller.
 ghost use Rattle.std.specs.Prelude.{◌≡◌, IsTrue};
 ghost use Rattle.wx_machine.specs.Contexts.{is_enter};
-ghost use Rattle.wx_broker.specs.Carried.{is_connect, is_post, is_send, is_reply, IfConnect, IfPost, IfSend, IfReply};
+ghost use Rattle.wx_broker.specs.Carried.{is_connect, is_connect_native, is_host_said, is_post, is_reply, is_send, is_send_native, IfConnect, IfConnectNative, IfHostSaid, IfPost, IfReply, IfSend, IfSendNative};
 
 use wx_context::Context;
 use wx_id::Utf8Text;
@@ -58,6 +58,39 @@ pub fn replied(e: Entry) -> JsonText
 {
     match e.call {
         Call::Reply(_, text) => text,
+        _ => unreachable!(),
+    }
+}
+
+/// The name in an entry that connects to a native host.
+pub fn host_name(e: Entry) -> Utf8Text
+    requires { IsTrue (is_connect_native e.call) }
+    ensures { IfConnectNative e.call (λ name. result ≡ name) }
+{
+    match e.call {
+        Call::ConnectNative(name) => name,
+        _ => unreachable!(),
+    }
+}
+
+/// The name and the message in an entry that sends to a native host.
+pub fn sent_native(e: Entry) -> (Utf8Text, JsonText)
+    requires { IsTrue (is_send_native e.call) }
+    ensures { IfSendNative e.call (λ name text. (result.0 ≡ name) × (result.1 ≡ text)) }
+{
+    match e.call {
+        Call::SendNative(name, text) => (name, text),
+        _ => unreachable!(),
+    }
+}
+
+/// The message in an entry of what a host wrote.
+pub fn host_said(e: Entry) -> JsonText
+    requires { IsTrue (is_host_said e.call) }
+    ensures { IfHostSaid e.call (λ text. result ≡ text) }
+{
+    match e.call {
+        Call::HostSaid(text) => text,
         _ => unreachable!(),
     }
 }

@@ -1,18 +1,19 @@
 //! What an answered call changes in the tables of channels and requests.
-ghost use Rattle.std.specs.Prelude.{◌≡◌, ℕ, ◌<◌, ◌≤◌, ◌+◌, [], ◌∷◌, ◌++◌, ◌&&◌, ◌==◌, cond, false, filter, IfOk, IsTrue, OnErr, OnOk, option_to_list, reverse, slice_get};
+ghost use Rattle.std.specs.Prelude.{◌≡◌, ℕ, ◌<◌, ◌≤◌, ◌+◌, [], ◌∷◌, ◌++◌, ◌&&◌, ◌==◌, cond, false, filter, length, not, IfOk, IsTrue, OnErr, OnOk, option_to_list, reverse, slice_get};
 ghost use Rattle.std.specs.Option.{option_map};
+ghost use Rattle.wx_machine.specs.Hosts.{is_for_channel, is_for_request};
 ghost use Rattle.wx_machine.specs.Contexts.{enters, is_receiver, numbers_of, receivers_of};
 ghost use Rattle.wx_port.specs.Port.{are_apart, is_among, is_open_port, closed, opened};
 ghost use Rattle.wx_one_shot.specs.Requests.{are_distinct, asked, is_unsettled_at, settled, standing_at, without};
 ghost use Rattle.wx_one_shot.specs.declared.requests.Standing.TheVariants as standing;
-ghost use Rattle.wx_broker.specs.Tables.{is_done, is_first};
+ghost use Rattle.wx_broker.specs.Tables.{is_done, is_first, IfRequest};
 
 use crate::answers;
 use std::alloc::Global;
 use wx_context::Target;
 use wx_id::{ChannelNo, ContextNo, NoMemory, RequestNo};
 use wx_journal::Journal;
-use wx_machine::{Answer, Call, Entry, Sort, Who};
+use wx_machine::{Answer, Call, Entry, Sort, Who, Work};
 use wx_one_shot::Requests;
 use wx_port::Ports;
 use wx_walks::contexts;
@@ -116,6 +117,28 @@ pub fn ask(
     }
 }
 
+/// Opens a channel from context c to a native host, in whose place it has no receivers.
+pub fn open_native(ports: &mut Ports, alloc: Global, c: ContextNo) -> Result<(), NoMemory>
+    ensures ok { OnOk result (ports.new ≡ ports.old ++ opened c [] ∷ []) }
+    ensures err { OnErr result (ports.new ≡ ports.old) }
+{
+    match ports.open(c, Vec::new(alloc)) {
+        Ok(_) => Ok(()),
+        Err(_) => Err(NoMemory),
+    }
+}
+
+/// Makes a request of context c to a native host, in whose place it has no receivers.
+pub fn ask_native(requests: &mut Requests, alloc: Global, c: ContextNo) -> Result<(), NoMemory>
+    ensures ok { OnOk result (requests.new ≡ requests.old ++ asked c [] ∷ []) }
+    ensures err { OnErr result (requests.new ≡ requests.old) }
+{
+    match requests.ask(c, Vec::new(alloc)) {
+        Ok(_) => Ok(()),
+        Err(_) => Err(NoMemory),
+    }
+}
+
 /// Appends an entry that has room.
 pub fn push(journal: &mut Journal, e: Entry)
     requires { 0 < journal.old.spare }
@@ -155,5 +178,48 @@ pub fn decline_if_done(requests: &mut Requests, r: RequestNo, c: ContextNo, answ
 {
     if answers::is_done(answer) {
         let _ = requests.decline(r, c);
+    }
+}
+
+/// Closes channel k where it is open.
+#[tactic(auto, using(crate::proofs::ClosedLater::port_closed, crate::proofs::ClosedLater::port_stays))]
+fn close_if_open(ports: &mut Ports, k: ChannelNo)
+    ensures { (j : ℕ) → slice_get ports.new j ≡ option_map (λ port. cond ((k.0 == j) && port.is_open) (closed port) port) (slice_get ports.old j) }
+{
+    if !ports.is_open(k) {
+        return;
+    }
+    ports.close(k)
+}
+
+/// Settles request r where it is not settled.
+#[tactic(auto, using(crate::proofs::ClosedLater::request_settled, crate::proofs::ClosedLater::request_stays))]
+fn settle_if_open(requests: &mut Requests, r: RequestNo)
+    requires { r.0 < length requests.old }
+    ensures { (j : ℕ) → slice_get requests.new j ≡ option_map (λ row. cond ((r.0 == j) && not row.is_settled) (settled row) row) (slice_get requests.old j) }
+{
+    if !requests.is_settled(r) {
+        requests.settle(r);
+    }
+}
+
+/// Closes the channel that a host worked for, if it is open.
+pub fn close_work(ports: &mut Ports, work: Option<Work>)
+    ensures { (j : ℕ) → slice_get ports.new j ≡ option_map (λ port. cond (is_for_channel j work && port.is_open) (closed port) port) (slice_get ports.old j) }
+{
+    match work {
+        Some(Work::Channel(k)) => close_if_open(ports, k),
+        _ => {}
+    }
+}
+
+/// Settles the request that a host works for, if it is not settled.
+pub fn settle_work(requests: &mut Requests, work: Option<Work>)
+    requires { IfRequest work (λ r. r < length requests.old) }
+    ensures { (j : ℕ) → slice_get requests.new j ≡ option_map (λ row. cond (is_for_request j work && not row.is_settled) (settled row) row) (slice_get requests.old j) }
+{
+    match work {
+        Some(Work::Request(r)) => settle_if_open(requests, r),
+        _ => {}
     }
 }

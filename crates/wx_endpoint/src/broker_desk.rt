@@ -49,6 +49,18 @@ impl Desk for BrokerDesk {
         self.broker.decline(self.context, r)
     }
 
+    fn connect_native(&mut self, name: Utf8Text) -> Result<Answer, Utf8Text> {
+        self.broker.connect_native(self.context, name)
+    }
+
+    fn send_native(
+        &mut self,
+        name: Utf8Text,
+        text: JsonText,
+    ) -> Result<Answer, (Utf8Text, JsonText)> {
+        self.broker.send_native(self.context, name, text)
+    }
+
     fn take(&mut self) -> Result<Answer, NoMemory> {
         self.broker.take(self.context)
     }

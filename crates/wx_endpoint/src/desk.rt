@@ -73,6 +73,27 @@ pub trait Desk {
         ensures refused { OnErr result (MakesNone (state self.old) (state self.new)) }
         ensures sound { IsSound (state self.new) };
 
+    /// The endpoint starts the native host of that name, on a channel. The name comes back where memory was refused.
+    fn connect_native(&mut self, name: Utf8Text) -> Result<Answer, Utf8Text>
+        requires { IsSound (state self.old) }
+        ensures made { IfOk result (λ answer. MakesOne (state self.old) (state self.new) (Call.ConnectNative name) answer) }
+        ensures refused { OnErr result (MakesNone (state self.old) (state self.new)) }
+        ensures returned { IfErr result (λ back. back ≡ name) }
+        ensures sound { IsSound (state self.new) };
+
+    /// The endpoint starts the native host of that name, for one message and its reply. The name and the text come back
+    /// where memory was refused.
+    fn send_native(
+        &mut self,
+        name: Utf8Text,
+        text: JsonText,
+    ) -> Result<Answer, (Utf8Text, JsonText)>
+        requires { IsSound (state self.old) }
+        ensures made { IfOk result (λ answer. MakesOne (state self.old) (state self.new) (Call.SendNative name text) answer) }
+        ensures refused { OnErr result (MakesNone (state self.old) (state self.new)) }
+        ensures returned { IfErr result (λ back. (back.0 ≡ name) × (back.1 ≡ text)) }
+        ensures sound { IsSound (state self.new) };
+
     /// The endpoint takes the first pending event.
     fn take(&mut self) -> Result<Answer, NoMemory>
         requires { IsSound (state self.old) }

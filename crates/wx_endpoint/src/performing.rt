@@ -64,6 +64,33 @@ fn reply_text<D: Desk>(desk: &mut D, r: RequestNo, text: JsonText) -> Result<Ans
     }
 }
 
+/// One `connect_native` with a copy of the name.
+fn connect_native<D: Desk>(desk: &mut D, name: &Utf8Text) -> Result<Answer, NoMemory>
+    requires { IsSound (D.state desk.old) }
+    ensures made { IfOk result (λ answer. MakesOne (D.state desk.old) (D.state desk.new) (Call.ConnectNative name.now) answer) }
+    ensures refused { OnErr result (MakesNone (D.state desk.old) (D.state desk.new)) }
+    ensures sound { IsSound (D.state desk.new) }
+{
+    match desk.connect_native(name.try_clone()?) {
+        Ok(answer) => Ok(answer),
+        Err(_) => Err(NoMemory),
+    }
+}
+
+/// One `send_native` with copies of the name and the text.
+fn send_native<D: Desk>(desk: &mut D, name: &Utf8Text, text: &JsonText) -> Result<Answer, NoMemory>
+    requires { IsSound (D.state desk.old) }
+    ensures made { IfOk result (λ answer. MakesOne (D.state desk.old) (D.state desk.new) (Call.SendNative name.now text.now) answer) }
+    ensures refused { OnErr result (MakesNone (D.state desk.old) (D.state desk.new)) }
+    ensures sound { IsSound (D.state desk.new) }
+{
+    let name = name.try_clone()?;
+    match desk.send_native(name, text.try_clone()?) {
+        Ok(answer) => Ok(answer),
+        Err(_) => Err(NoMemory),
+    }
+}
+
 /// Makes the call.
 fn make<D: Desk>(desk: &mut D, call: AskedCall<'_>) -> Result<Answer, NoMemory>
     requires { IsSound (D.state desk.old) }
@@ -80,6 +107,8 @@ fn make<D: Desk>(desk: &mut D, call: AskedCall<'_>) -> Result<Answer, NoMemory>
         AskedCall::Send(target, text) => send(desk, *target, text),
         AskedCall::Reply(r, text) => reply_text(desk, r, text.try_clone()?),
         AskedCall::Decline(r) => desk.decline(r),
+        AskedCall::ConnectNative(name) => connect_native(desk, name),
+        AskedCall::SendNative(name, text) => send_native(desk, name, text),
         AskedCall::Take => desk.take(),
     }
 }

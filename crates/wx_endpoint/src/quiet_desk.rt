@@ -47,6 +47,18 @@ impl Desk for QuietDesk {
         Err(NoMemory)
     }
 
+    fn connect_native(&mut self, name: Utf8Text) -> Result<Answer, Utf8Text> {
+        Err(name)
+    }
+
+    fn send_native(
+        &mut self,
+        name: Utf8Text,
+        text: JsonText,
+    ) -> Result<Answer, (Utf8Text, JsonText)> {
+        Err((name, text))
+    }
+
     fn take(&mut self) -> Result<Answer, NoMemory> {
         if self.takes == u64::MAX {
             return Err(NoMemory);

@@ -16,7 +16,8 @@ use std::marker::Model;
 /// How deep a text may nest.
 const LEVELS: usize = 1024;
 
-/// A check of a JSON text that comes in pieces. It takes no memory, and a fault is kept: each later call answers it.
+/// A check of a JSON text that comes in pieces. It takes no memory, and a fault is kept: each later call answers it,
+/// until the check is restarted.
 #[derive(Drop)]
 pub struct JsonCheck {
     taken: u64,
@@ -52,6 +53,18 @@ impl JsonCheck {
             kinds: [0; 16],
             fault: None,
         }
+    }
+
+    /// Begins again, as a check that was given nothing. The words of the levels stay: with none open they tell nothing.
+    #[tactic(auto, unfolding(crate::specs::States::is_state))]
+    pub fn restart(&mut self)
+        ensures stands { Stands self.new [] }
+        ensures count { taken self.new ≡ 0 }
+    {
+        self.taken = 0;
+        self.state = b'W';
+        self.depth = 0;
+        self.fault = None;
     }
 
     /// Takes the next piece of the text: whether all bytes so far are the start of a JSON text.

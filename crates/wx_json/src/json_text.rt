@@ -58,6 +58,13 @@ impl JsonText {
         &self.items
     }
 
+    /// The bytes, as they were given, with their memory.
+    pub fn into_bytes(self) -> Vec<u8>
+        ensures { result.items ≡ self }
+    {
+        self.items
+    }
+
     /// How many bytes.
     pub fn len(&self) -> u64
         ensures { result ≡ length self.now }

@@ -132,12 +132,16 @@ fn depth(rt: HostRuntime) -> Result<(), Fail> {
 }
 
 #[test]
-fn a_fault_stays(rt: HostRuntime) -> Result<(), Fail> {
+fn a_fault_stays_until_a_restart(rt: HostRuntime) -> Result<(), Fail> {
     let mut check = JsonCheck::new();
     assert!(&rt; check.step(b"[0") == Ok(()));
     assert!(&rt; check.step(b"1") == at(2, JsonKind::Syntax));
     assert!(&rt; check.step(b"]") == at(2, JsonKind::Syntax));
     assert!(&rt; check.finish() == at(2, JsonKind::Syntax));
+    assert!(&rt; check.taken() == 2);
+    check.restart();
+    assert!(&rt; check.step(b"{}") == Ok(()));
+    assert!(&rt; check.finish() == Ok(()));
     assert!(&rt; check.taken() == 2);
     Ok(())
 }
@@ -149,6 +153,7 @@ fn a_text_and_its_copy(rt: HostRuntime) -> Result<(), Fail> {
             Ok(copy) => {
                 assert!(&rt; copy.bytes() == b" {}".as_slice() && copy.len() == 3);
                 assert!(&rt; text.bytes() == b" {}".as_slice());
+                assert!(&rt; copy.into_bytes().as_slice() == b" {}".as_slice());
             }
             Err(_fault) => assert!(&rt; false),
         },

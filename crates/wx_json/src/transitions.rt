@@ -120,7 +120,7 @@ fn transition(state: usize, c: u8) -> u8
     ensures value { (k n : ℕ) (σ : List Bool) →
         entered result (running k (coding_of state) (mode_of state) n σ) ≡ advance (running k (coding_of state) (mode_of state) n σ) c }
 {
-    TRANSITIONS[(CLASSES[c as usize] - b'0') as usize][state - 64]
+    TRANSITIONS[CLASSES[c as usize] as usize - b'0' as usize][state - 64]
 }
 
 /// Goes from state to state until an entry asks for more, or the piece ends.

@@ -1,5 +1,5 @@
 -- What a reader's fields say of its bytes.
-use Rattle.std.proofs.Common.{◌≡◌, ℕ, ◌+◌, ◌-◌, ◌<◌, ◌≤◌, ◌^◌, List, [], ◌++◌, length, take, drop, min, true, false, Option, Some, None, refl, ap, ◌∙◌, sym, subst, arith, inl, inr, length-append}
+use Rattle.std.proofs.Common.{◌≡◌, ℕ, ◌+◌, ◌-◌, ◌<◌, ◌≤◌, ◌^◌, List, [], ◌∷◌, ◌++◌, length, take, drop, min, true, false, Option, Some, None, refl, ap, ◌∙◌, sym, subst, arith, inl, inr, length-append}
 use Rattle.std.specs.Prelude.{is_some, IfSome}
 use Rattle.std.specs.Vec.{vec_capacity}
 use Rattle.std.proofs.lemmas.Bool.{cases_lt}
@@ -7,7 +7,7 @@ use Rattle.std.proofs.lemmas.List.{append-nil, take_all, take_rest, length-take}
 use Rattle.wx_json.specs.Check.{Stands, taken}
 use Rattle.wx_json.specs.Text.{IsJsonText, IsPrefixOfJson, IsFault, IsEndFault}
 use Rattle.wx_json.specs.declared.JsonFault.{JsonFault}
-use Rattle.wx_native_frame.specs.Frames.{Unfinished, length_bytes, told, IsTrouble, IsUnderWay, EndsFrame, StopsAt}
+use Rattle.wx_native_frame.specs.Frames.{Unfinished, length_bytes, told, frame, IsTrouble, IsUnderWay, EndsFrame, StopsAt}
 use Rattle.wx_native_frame.specs.Reader.{Reads, IsInside, IsSound, unfinished_of}
 use Rattle.wx_native_frame.specs.declared.FrameFault.{FrameFault}
 use Rattle.wx_native_frame.specs.declared.FrameFault.TheVariants.{BadJson}
@@ -15,7 +15,7 @@ use Rattle.wx_native_frame.specs.declared.frame_reader.FrameReader.TheInside.{In
 use Rattle.wx_native_frame.proofs.Empty.{empty_prefix}
 use Rattle.wx_native_frame.proofs.Lengths.{told-append}
 use Rattle.wx_native_frame.proofs.FrameLaws.{short_under_way, text_under_way}
-use Rattle.wx_native_frame.proofs.StepLaws.{GoesOn, text_ends, text_goes_on, text_stops, text_cut, head_stops, ends_behind, stops_behind}
+use Rattle.wx_native_frame.proofs.StepLaws.{GoesOn, ends_frame, text_ends, text_goes_on, text_stops, text_cut, head_stops, ends_behind, stops_behind}
 
 some_of : (o : Option FrameFault) (T : FrameFault → Type 0) → ((f : FrameFault) → o ≡ Some f → T f) → is_some o ≡ true → (f : FrameFault) × T f
 some_of None T h e = cc
@@ -169,3 +169,16 @@ hands_on a v piece head text left o used more s is lt n e empty h =
     map_some o (λ t. EndsFrame a.limit (head ++ text) (take (length piece - used) (drop used piece)) more t × (left ≡ [])) (λ t. EndsFrame v.limit v.bytes piece (used + more) t × (left ≡ [])) (λ t p.
     let V : Unfinished → Type 0 = λ w. EndsFrame w.limit w.bytes piece (used + more) t in
     (subst V is (head_ends a piece head text t used more s lt n e empty p.0), p.1)) h
+
+-- A whole frame in front
+
+no_bytes : (l : List ℕ) → length l ≡ 0 → l ≡ []
+no_bytes [] e = refl
+no_bytes (x ∷ l) e = absurd (omega (arith, e))
+
+pub whole_ends : (a : Inside) (v : Unfinished) (piece text : List ℕ) (o : Option (List ℕ)) → IsSound a → unfinished_of a ≡ v → length a.head ≡ 0 → length text ≤ a.limit → 4 + length text ≤ length piece → take (4 + length text) piece ≡ frame text → IfSome o (λ t. (t ≡ text) × IsJsonText text) → IfSome o (λ t. (v.bytes ≡ []) × EndsFrame v.limit [] piece (4 + length t) t)
+whole_ends a v piece text o s is none fits within bytes h =
+    map_some o (λ t. (t ≡ text) × IsJsonText text) (λ t. (v.bytes ≡ []) × EndsFrame v.limit [] piece (4 + length t) t) (λ t p.
+    let E : List ℕ → Type 0 = λ x. EndsFrame a.limit [] piece (4 + length x) x in
+    let V : Unfinished → Type 0 = λ w. (w.bytes ≡ []) × EndsFrame w.limit [] piece (4 + length t) t in
+    subst V is (bytes_of_head a s (omega (arith, none)) ∙ no_bytes a.head none, subst E (sym p.0) (ends_frame a.limit [] piece text (4 + length text) s.limit within (record { json = p.1; fits = fits; bytes_are = bytes })))) h

@@ -1,13 +1,13 @@
 ghost use Rattle.std.specs.Prelude.{◌≡◌, ℕ, ◌+◌, ◌<◌, ◌≤◌, ◌^◌, List, [], ◌++◌, length, take, OnOk, IfErr, IfOk, IfSome, IfNone, MatchOption, MatchResult};
-ghost use Rattle.wx_native_frame.specs.Frames.{told, IsTrouble, IsUnderWay, EndsFrame, StopsAt};
+ghost use Rattle.wx_native_frame.specs.Frames.{told, frame, IsTrouble, IsUnderWay, EndsFrame, StopsAt};
 ghost use Rattle.wx_native_frame.specs.declared.FrameFault.{FrameFault};
 
 use crate::head::Head;
-use crate::text::{read_on, take_whole};
+use crate::text::{empty_text, read_on, take_whole, text_of};
 use crate::{Cut, FrameFault, Step};
 use std::alloc::Global;
 use std::marker::Model;
-use wx_json::{JsonCheck, JsonFault, JsonKind};
+use wx_json::{JsonCheck, JsonFault, JsonKind, JsonText};
 
 /// Reads frames from bytes that come in pieces, and checks their texts on the way. After a fault other than want of
 /// memory each later step answers that fault.
@@ -19,6 +19,7 @@ pub struct FrameReader {
     text: Vec<u8>,
     check: JsonCheck,
     fault: Option<FrameFault>,
+    spare: Vec<u8>,
 }
 
 impl Model for FrameReader {
@@ -46,7 +47,15 @@ impl FrameReader {
             text: Vec::new(alloc),
             check: JsonCheck::new(),
             fault: None,
+            spare: Vec::new(alloc),
         }
+    }
+
+    /// Takes back a text that was handed out, or any other: its memory serves for a later one.
+    pub fn take_back(&mut self, text: JsonText)
+        ensures { self.new ≡ self.old }
+    {
+        self.spare = text.into_bytes();
     }
 
     /// Whether the bytes used end where a frame does. After a fault they don't.
@@ -90,11 +99,30 @@ impl FrameReader {
         ensures length { result ≡ Err FrameFault.NoMemory →
             (length self.old.bytes < 4) × (4 ≤ length self.old.bytes + length piece.now) }
     {
+        if let Some(text) = self.whole_frame(piece) {
+            return Ok(Step {
+                used: 4 + text.len() as usize,
+                frame: Some(text),
+            });
+        }
         if self.head.len() < 4 {
             self.step_in_head(piece)
         } else {
             self.step_in_text(piece)
         }
+    }
+
+    /// The text of a frame that stands whole in front of the piece, where none is under way. Where that is at fault, or
+    /// there is no memory for it, nothing is answered here.
+    fn whole_frame(&mut self, piece: &[u8]) -> Option<JsonText>
+        ensures kept { self.new ≡ self.old }
+        ensures frame { IfSome result (λ t. (self.old.bytes ≡ []) × EndsFrame self.old.limit [] piece.now (4 + length t) t) }
+    {
+        if self.head.len() > 0 {
+            return None;
+        }
+        let text = framed(piece, self.limit)?;
+        text_of(self.alloc, &mut self.check, &mut self.spare, text)
     }
 
     fn step_in_head(&mut self, piece: &[u8]) -> Result<Step, FrameFault>
@@ -121,12 +149,12 @@ impl FrameReader {
             self.fault = Some(fault);
             return Err(fault);
         }
-        let Ok(text) = Vec::with_capacity(self.alloc, len as usize) else {
+        let Ok(text) = empty_text(self.alloc, &mut self.spare, len as usize) else {
             return Err(FrameFault::NoMemory);
         };
         self.head = head;
         self.text = text;
-        self.check = JsonCheck::new();
+        self.check.restart();
         let Step { used: more, frame } = self.step_in_text(&piece[used..])?;
         Ok(Step {
             used: used + more,
@@ -171,6 +199,21 @@ impl FrameReader {
             }
         }
     }
+}
+
+/// The bytes of a text whose whole frame stands in front, where its length is within the limit.
+fn framed(bytes: &[u8], limit: u32) -> Option<&[u8]>
+    ensures { IfSome result (λ text. (length text.now ≤ limit) × (4 + length text.now ≤ length bytes.now)
+        × (take (4 + length text.now) bytes.now ≡ frame text.now)) }
+{
+    if bytes.len() < 4 {
+        return None;
+    }
+    let len = Head::new().with(&bytes[..4]).length();
+    if len > limit || len as usize > bytes.len() - 4 {
+        return None;
+    }
+    Some(&bytes[4..4 + len as usize])
 }
 
 /// What is wrong with a length: it is over the limit, or no text is so short.

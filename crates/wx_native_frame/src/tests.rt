@@ -16,6 +16,7 @@ fn feed(reader: &mut FrameReader, piece: &[u8], texts: &mut Vec<u8>) -> Result<(
             if texts.extend_from_slice(text.bytes()).is_err() || texts.push(b'|').is_err() {
                 return Err(FrameFault::NoMemory);
             }
+            reader.take_back(text);
         }
         rest = rest.get(used..).unwrap_or(&[]);
     }

@@ -1,12 +1,49 @@
-ghost use Rattle.std.specs.Prelude.{◌≡◌, ℕ, ◌+◌, ◌<◌, ◌≤◌, ◌^◌, List, [], ◌++◌, length, take, OnOk, IfErr, IfOk};
+ghost use Rattle.std.specs.Prelude.{◌≡◌, ℕ, ◌+◌, ◌<◌, ◌≤◌, ◌^◌, List, [], ◌++◌, length, take, OnOk, IfErr, IfOk, IfSome};
 ghost use Rattle.std.specs.Vec.{vec_len, vec_capacity};
 ghost use Rattle.wx_json.specs.Check.{Stands, taken};
 ghost use Rattle.wx_json.specs.Text.{IsJsonText, IsPrefixOfJson, IsFault, IsEndFault};
 ghost use Rattle.wx_native_frame.specs.Reader.{Reads};
 
-use std::alloc::Global;
+use std::alloc::{AllocError, Global};
 use std::mem;
 use wx_json::{JsonCheck, JsonFault, JsonText};
+
+/// An empty text with room for so many bytes: the spare one, where it has the room, or a new one.
+pub(crate) fn empty_text(
+    alloc: Global,
+    spare: &mut Vec<u8>,
+    room: usize,
+) -> Result<Vec<u8>, AllocError>
+    ensures items { IfOk result (λ text. text.items ≡ []) }
+    ensures capacity { IfOk result (λ text. room ≤ vec_capacity text) }
+{
+    if spare.capacity() < room {
+        return Vec::with_capacity(alloc, room);
+    }
+    let mut text = mem::replace(spare, Vec::new(alloc));
+    text.clear();
+    Ok(text)
+}
+
+/// The bytes as a text, where they are one and there is memory for it.
+pub(crate) fn text_of(
+    alloc: Global,
+    check: &mut JsonCheck,
+    spare: &mut Vec<u8>,
+    bytes: &[u8],
+) -> Option<JsonText>
+    ensures { IfSome result (λ text. (text ≡ bytes.now) × IsJsonText bytes.now) }
+{
+    check.restart();
+    if check.step(bytes).is_err() {
+        return None;
+    }
+    let Ok(mut text) = empty_text(alloc, spare, bytes.len()) else {
+        return None;
+    };
+    let _ = text.extend_from_slice(bytes);
+    JsonText::from_check(check, text).ok()
+}
 
 /// Takes the next part of a text, or as much of it as ends with its faulty byte. There is room for it.
 pub(crate) fn read_on(

@@ -133,7 +133,10 @@ fn read_first(
     match reader.step(bytes) {
         Ok(Step { used, frame }) => match frame {
             Some(text) => match put_frame(out, n, text.bytes()) {
-                Ok(()) => Ok(First::Frame { used }),
+                Ok(()) => {
+                    reader.take_back(text);
+                    Ok(First::Frame { used })
+                }
                 Err(AllocError) => Err(NoMemory),
             },
             None => Ok(First::End(unfinished(reader))),
@@ -173,20 +176,11 @@ fn is_whole(end: FramesEnd) -> bool
     matches!(end, FramesEnd::Whole)
 }
 
-/// An empty text with room for the lines of so many bytes; where that is refused, room is taken as they come.
-fn roomy_text(alloc: Global, bytes: usize) -> Vec<u8>
-    ensures { result.items ≡ [] }
-{
-    let mut text = Vec::new(alloc);
-    let _ = text.reserve(bytes.saturating_mul(2));
-    text
-}
-
 /// What `frames` answers of the bytes of its file.
 pub(crate) fn answer(alloc: Global, bytes: &[u8]) -> Result<Output, Refusal>
     ensures { Says (FramesAnswers (present bytes.now)) result }
 {
-    let mut text = roomy_text(alloc, bytes.len());
+    let mut text = Vec::new(alloc);
     let end = match put_frames(alloc, bytes, &mut text) {
         Ok(end) => end,
         Err(NoMemory) => return Err(Refusal::NoMemory),

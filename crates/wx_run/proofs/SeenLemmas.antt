@@ -4,7 +4,7 @@ use Rattle.std.specs.Prelude.{slice_get}
 use Rattle.std.proofs.lemmas.Bool.{eqb-true}
 use Rattle.wx_id.specs.declared.numbers.ContextNo.{ContextNo}
 use Rattle.wx_machine.specs.declared.entries.Who.{Who}
-use Rattle.wx_machine.specs.declared.entries.Who.TheVariants.{Context as ByContext}
+use Rattle.wx_machine.specs.declared.entries.Who.TheVariants.{Context as ByContext, Host as ByHost}
 use Rattle.wx_machine.specs.declared.entries.Entry.{Entry}
 use Rattle.wx_machine.specs.Contexts.{is_by}
 use Rattle.wx_script.specs.declared.script.Command.{Command}
@@ -27,6 +27,7 @@ own_in-seen_by c (e ∷ past) = ap (λ n. cond (is_by e.who c) 1 0 + n) (own_in-
 -- what an endpoint's script asks for, where its number is known
 asked_of : (scripts : List (List Command)) (s : List Command) (past : List Entry) (who : Who) (c : ContextNo) (e : Entry)
     → AskedOf scripts past who e → is_by who c ≡ true → slice_get scripts c.0 ≡ Some s → MayCome past c (next_of s c past) e
+asked_of scripts s past (ByHost h) c e asked is_c is = absurd cc
 asked_of scripts s past (ByContext d) c e asked is_c is =
     let same : d.0 ≡ c.0 = eqb-true d.0 c.0 is_c in
     let here : IsAskedOf scripts past c e = subst (λ n. IsAskedOf scripts past (record { 0 = n }) e) same asked in

@@ -28,7 +28,7 @@ EndsBy scripts past (Spent (Endpoint n)) = spent_of scripts past ≡ Some n
 pub record IsRunOf (world : WorldLists) (scene : SceneValue) (journal : List Entry) (end : RunEnd) : Type 0 where
   -- every answer is the machine's after the entries before it
   pub legal : IsLegal world journal
-  -- each entry is an endpoint's, and what its script asks for at its place
+  -- each entry of a context is an endpoint's, and what its script asks for at its place
   pub carries_out : CarriesOut (scripts_of scene) journal
   -- it begins with the opening
   pub begins : BeginsWith (opening scene) journal

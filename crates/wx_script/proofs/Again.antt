@@ -10,7 +10,7 @@ use Rattle.wx_context.specs.Paths.{is_printable}
 use Rattle.wx_script.specs.declared.line.Awaited.{Awaited}
 use Rattle.wx_script.specs.declared.line.Awaited.TheVariants as event
 use Rattle.wx_script.specs.Words.{word, behind, is_name, is_small, is_count}
-use Rattle.wx_script.specs.Line.{NamedTarget, own, extension_named, tab, NamedAct, NamedCommand, Document, NamedContext, Line, listen, connect, post, disconnect, send, reply, reply_same, decline, take_one, await_event, echo, plain, repeat, page, content, web, comment, extension, host, endpoint, script, ◌>>=◌, name_at, file_at, extension_at, host_at, page_at, document_at, content_at, web_at, context_with, endpoint_with, flag_at, flags_at, listen_at, extension_target_at, frame_at, tab_with, tab_at, target_at, port_name_at, connect_at, post_at, disconnect_at, channel_act_with, send_at, reply_with, reply_at, decline_at, request_act_with, awaited_at, await_at, echo_at, act_with, act_at, repeat_at, command_at, declaration_with, declaration_at, line_at}
+use Rattle.wx_script.specs.Line.{NamedTarget, own, extension_named, tab, NamedAct, NamedCommand, Document, NamedContext, Line, listen, connect, post, disconnect, send, reply, reply_same, decline, connect_native, send_native, take_one, await_event, echo, plain, repeat, page, content, web, comment, extension, host, endpoint, script, ◌>>=◌, name_at, file_at, extension_at, host_at, page_at, document_at, content_at, web_at, context_with, endpoint_with, flag_at, flags_at, listen_at, extension_target_at, frame_at, tab_with, tab_at, target_at, port_name_at, connect_at, post_at, disconnect_at, channel_act_with, native_at, ask_at, native_act_with, send_at, reply_with, reply_at, decline_at, request_act_with, awaited_at, await_at, echo_at, act_with, act_at, repeat_at, command_at, declaration_with, declaration_at, line_at}
 use Rattle.wx_script.specs.Spelling.{◌␣◌, flags, target_spelling, port_spelling, event_word, act_spelling, command_spelling, document_spelling, endpoint_spelling, spelling, IsNamedTarget, may_follow, IsNamedAct, IsNamedCommand, IsDocument, IsNamedContext, IsFile, IsLine}
 use Rattle.wx_script.proofs.WordLemmas.{word-behind, rest-behind, name_no_space, name_not_same, word_no_space}
 use Rattle.wx_script.proofs.NumberLemmas.{tab_id_again, frame_id_again, count_again, number_no_space, count_no_space}
@@ -150,6 +150,15 @@ disconnect_again : (var : List ℕ) → IsTrue (is_name var) → disconnect_at v
 unfolding disconnect_at
 disconnect_again var h = rw (h) refl
 
+native_again : (var name : List ℕ) → IsNamedAct (connect_native var name) → native_at (var ␣ name) ≡ Some (connect_native var name)
+unfolding native_at
+native_again var name h = rw (name_again var name h.0, h.1) refl
+
+ask_again : (var name text : List ℕ) → IsNamedAct (send_native var name text) → ask_at (var ␣ name ␣ text) ≡ Some (send_native var name text)
+unfolding ask_at
+ask_again var name text h =
+    rw (name_again var (name ␣ text) h.0, rest-behind name (Some text) (word_no_space name h.1), word-behind name (Some text) (word_no_space name h.1), h.1, h.2) refl
+
 send_again : (var : List ℕ) (t : NamedTarget) (text : List ℕ) → IsNamedAct (send var t text) → send_at (var ␣ target_spelling t (Some text)) ≡ Some (send var t text)
 unfolding send_at
 send_again var t text h = rw (name_again var (target_spelling t (Some text)) h.0, target_again t (Some text) h.1 h.2, h.3) refl
@@ -180,7 +189,7 @@ unfolding echo_at
 echo_again n h = rw (count_again n h) refl
 
 act_again : (a : NamedAct) → IsNamedAct a → act_at (act_spelling a) ≡ Some a
-unfolding act_at act_with request_act_with channel_act_with
+unfolding act_at act_with request_act_with native_act_with channel_act_with
 act_again (listen l) h = flags_again l.connect l.message l.external_connect l.external_message
 act_again (connect var target name) h = connect_again var target name h
 act_again (post var text) h = post_again var text h
@@ -189,6 +198,8 @@ act_again (send var target text) h = send_again var target text h
 act_again (reply var text) h = reply_again var text h
 act_again (reply_same var) h = reply_same_again var h
 act_again (decline var) h = decline_again var h
+act_again (connect_native var name) h = native_again var name h
+act_again (send_native var name text) h = ask_again var name text h
 act_again take_one h = refl
 act_again (await_event awaited var) h = await_again awaited var h
 act_again (echo n) h = echo_again n h
@@ -208,6 +219,8 @@ no_repeat (send var target text) = refl
 no_repeat (reply var text) = refl
 no_repeat (reply_same var) = refl
 no_repeat (decline var) = refl
+no_repeat (connect_native var name) = refl
+no_repeat (send_native var name text) = refl
 no_repeat take_one = refl
 no_repeat (await_event awaited var) = refl
 no_repeat (echo n) = refl

@@ -16,7 +16,7 @@ use Rattle.wx_script.specs.declared.line.Awaited.TheVariants as event
 use Rattle.wx_script.specs.declared.names.VariableNames.{VariableNames}
 use Rattle.wx_context.specs.WebUrls.{web_url_of}
 use Rattle.wx_json.specs.Test.{is_json_text}
-use Rattle.wx_script.specs.Line.{NamedTarget, own, extension_named, tab, NamedAct, NamedCommand, NamedContext, Line, listen, connect, post, disconnect, send, reply, reply_same, decline, take_one, await_event, echo, page, content, web, comment, extension, host, endpoint, script, line_at}
+use Rattle.wx_script.specs.Line.{NamedTarget, own, extension_named, tab, NamedAct, NamedCommand, NamedContext, Line, listen, connect, post, disconnect, send, reply, reply_same, decline, connect_native, send_native, take_one, await_event, echo, page, content, web, comment, extension, host, endpoint, script, line_at}
 use Rattle.wx_script.specs.Names.{has_extension, has_host, has_endpoint, id_under, place_in}
 use Rattle.wx_script.specs.Draft.{Draft, fresh, ◌>>=◌, declared, web_url, context_of, endpoint_added, used, json_of, target_of, await_of, act_of, named_act, command_added, line_added}
 use Rattle.wx_script.specs.Scene.{lines_of, line_or_form, text_added, unless_faulty, lines_added, scene_from, headed, scene_of}
@@ -84,6 +84,8 @@ of_act_of extensions variables (reply name text) =
     of_then (used name variables.received) _ (of_used name variables.received) (λ v. of_then (json_of text) _ (of_json_of text) (λ json. tt))
 of_act_of extensions variables (reply_same name) = of_then (used name variables.received) _ (of_used name variables.received) (λ v. tt)
 of_act_of extensions variables (decline name) = of_then (used name variables.received) _ (of_used name variables.received) (λ v. tt)
+of_act_of extensions variables (connect_native name host_name) = tt
+of_act_of extensions variables (send_native name host_name text) = of_then (json_of text) _ (of_json_of text) (λ json. tt)
 of_act_of extensions variables take_one = tt
 of_act_of extensions variables (await_event awaited name) = of_await_of variables awaited name
 of_act_of extensions variables (echo n) = tt

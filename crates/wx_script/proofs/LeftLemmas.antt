@@ -7,7 +7,7 @@ use Rattle.wx_id.specs.declared.numbers.ContextNo.{ContextNo}
 use Rattle.wx_id.specs.declared.events.Event.{Event}
 use Rattle.wx_external.specs.World.{WorldLists}
 use Rattle.wx_machine.specs.declared.entries.Who.{Who}
-use Rattle.wx_machine.specs.declared.entries.Who.TheVariants.{Context as ByContext}
+use Rattle.wx_machine.specs.declared.entries.Who.TheVariants.{Context as ByContext, Host as ByHost}
 use Rattle.wx_machine.specs.declared.entries.Call.{Call}
 use Rattle.wx_machine.specs.declared.entries.Call.TheVariants as call
 use Rattle.wx_machine.specs.declared.entries.Answer.{Answer}
@@ -208,6 +208,7 @@ asked_of scripts past script c e (ByContext d) asked mine at =
     let same : d ≡ c = same_number d c mine in
     let of_c : IsAskedOf scripts past c e = subst (λ d. IsAskedOf scripts past d e) same asked in
     (ap ByContext same, subst (λ s. MayCome past c (next_of s c past) e) (same_script scripts c.0 of_c.script script of_c.is_endpoint at) of_c.asked)
+asked_of scripts past script c e (ByHost h) asked mine at = absurd cc
 
 agrees : (world : WorldLists) (scripts : List (List Command)) (script : List Command) (c : ContextNo) (past : List Entry)
     → EachAfter (FollowsMachine world) past → EachAfter (FollowsScript scripts) past → slice_get scripts c.0 ≡ Some script → Agrees script c past

@@ -13,7 +13,7 @@ use Rattle.wx_context.specs.Paths.{is_printable}
 use Rattle.wx_script.specs.declared.line.Awaited.{Awaited}
 use Rattle.wx_script.specs.declared.line.Awaited.TheVariants as event
 use Rattle.wx_script.specs.Words.{word, rest, behind, is_name, is_word, is_given, is_small, is_comment}
-use Rattle.wx_script.specs.Line.{NamedTarget, own, tab, NamedAct, NamedCommand, Document, NamedContext, Line, listen, connect, take_one, echo, plain, repeat, content, web, comment, endpoint, script, listens_to_nothing, name_at, count_at, tab_id_at, frame_id_at, file_at, extension_at, host_at, page_at, document_at, content_at, web_at, context_with, endpoint_with, flag_at, flags_at, listen_at, extension_target_at, frame_at, tab_with, tab_at, target_at, port_name_at, connect_at, post_at, disconnect_at, channel_act_with, send_at, reply_with, reply_at, decline_at, request_act_with, awaited_at, await_at, echo_at, act_with, act_at, repeat_at, command_at, declaration_with, declaration_at, line_at}
+use Rattle.wx_script.specs.Line.{NamedTarget, own, tab, NamedAct, NamedCommand, Document, NamedContext, Line, listen, connect, take_one, echo, plain, repeat, content, web, comment, endpoint, script, listens_to_nothing, name_at, count_at, tab_id_at, frame_id_at, file_at, extension_at, host_at, page_at, document_at, content_at, web_at, context_with, endpoint_with, flag_at, flags_at, listen_at, extension_target_at, frame_at, tab_with, tab_at, target_at, port_name_at, connect_at, post_at, disconnect_at, channel_act_with, native_at, ask_at, native_act_with, send_at, reply_with, reply_at, decline_at, request_act_with, awaited_at, await_at, echo_at, act_with, act_at, repeat_at, command_at, declaration_with, declaration_at, line_at}
 use Rattle.wx_script.specs.Spelling.{◌␣◌, flag_ahead, flag_words, target_spelling, port_spelling, event_word, act_spelling, command_spelling, document_spelling, endpoint_spelling, spelling, IsNamedTarget, may_follow, IsNamedAct, IsNamedCommand, IsDocument, IsNamedContext, IsFile, IsLine}
 use Rattle.wx_script.proofs.Chosen.{bind_some, chosen}
 use Rattle.wx_script.proofs.WordLemmas.{parts, two_parts}
@@ -371,6 +371,40 @@ channel_act_read head text a e =
       ]
     ]
 
+native_read : (text : List ℕ) (a : NamedAct) → native_at text ≡ Some a → IsReadAsAct a (codes "native" ␣ text)
+unfolding native_at
+native_read text a e =
+    let p = bind_some (name_at text) _ a e in
+    let n = name_read text p.0 p.1 in
+    let q = cond_some _ _ _ p.2 in
+    subst (λ a. IsReadAsAct a (codes "native" ␣ text)) q.1
+    (record { is_act = (n.is_named, q.0); spelled = ap (λ t. codes "native" ␣ t) n.spelled })
+
+ask_read : (text : List ℕ) (a : NamedAct) → ask_at text ≡ Some a → IsReadAsAct a (codes "ask" ␣ text)
+unfolding ask_at
+ask_read text a e =
+    let p = bind_some (name_at text) _ a e in
+    let n = name_read text p.0 p.1 in
+    let p2 = bind_some (rest p.0.1) _ a p.2 in
+    let q = cond_some _ _ _ p2.2 in
+    let given = and_parts (is_word (word p.0.1)) (is_given p2.0) q.0 in
+    subst (λ a. IsReadAsAct a (codes "ask" ␣ text)) q.1
+    (record {
+      is_act = (n.is_named, given.0, given.1);
+      spelled = ap (λ t. codes "ask" ␣ t) (n.spelled ∙ ap (λ t. p.0.0 ␣ t) (two_parts p.0.1 p2.0 p2.1));
+    })
+
+native_act_read : (head text : List ℕ) (a : NamedAct) → native_act_with head text ≡ Some a → IsReadAsAct a (head ␣ text)
+unfolding native_act_with
+native_act_read head text a e =
+    elim (chosen (bytes_eq head (codes "native")) _ _ _ e) [
+      | inl h ↦ rw (same head (codes "native") h.0) (native_read text a h.1)
+      | inr h ↦ elim (chosen (bytes_eq head (codes "ask")) _ _ _ h.1) [
+        | inl h ↦ rw (same head (codes "ask") h.0) (ask_read text a h.1)
+        | inr h ↦ channel_act_read head text a h.1
+      ]
+    ]
+
 send_read : (text : List ℕ) (a : NamedAct) → send_at text ≡ Some a → IsReadAsAct a (codes "send" ␣ text)
 unfolding send_at
 send_read text a e =
@@ -418,7 +452,7 @@ request_act_read head text a e =
         | inl h ↦ rw (same head (codes "reply") h.0) (reply_read text a h.1)
         | inr h ↦ elim (chosen (bytes_eq head (codes "decline")) _ _ _ h.1) [
           | inl h ↦ rw (same head (codes "decline") h.0) (decline_read text a h.1)
-          | inr h ↦ channel_act_read head text a h.1
+          | inr h ↦ native_act_read head text a h.1
         ]
       ]
     ]

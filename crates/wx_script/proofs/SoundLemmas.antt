@@ -22,7 +22,7 @@ use Rattle.wx_script.specs.declared.line.Awaited.{Awaited}
 use Rattle.wx_script.specs.declared.line.Awaited.TheVariants as event
 use Rattle.wx_script.specs.declared.names.VariableNames.{VariableNames}
 use Rattle.wx_script.specs.declared.scene.SceneExtension.{SceneExtension}
-use Rattle.wx_script.specs.Line.{NamedAct, NamedCommand, Line, listen, connect, post, disconnect, send, reply, reply_same, decline, take_one, await_event, echo, plain, repeat, comment, extension, host, endpoint, script, line_at}
+use Rattle.wx_script.specs.Line.{NamedAct, NamedCommand, Line, listen, connect, post, disconnect, send, reply, reply_same, decline, connect_native, send_native, take_one, await_event, echo, plain, repeat, comment, extension, host, endpoint, script, line_at}
 use Rattle.wx_script.specs.Spelling.{IsNamedAct, IsNamedCommand, IsLine}
 use Rattle.wx_script.specs.Names.{place_in, is_among, binding, has_extension, has_host, has_endpoint}
 use Rattle.wx_script.specs.Draft.{Draft, no_variables, fresh, ◌>>=◌, context_of, endpoint_pushed, var, place_or_next, bound, used, json_of, target_of, await_of, act_of, variables_after, named_act, command_by, commands, with_command, act_added, command_added, line_added}
@@ -57,6 +57,8 @@ sound_act_later n m (act.Send v target text) le h = omega (arith, le, h)
 sound_act_later n m (act.Reply v text) le h = omega (arith, le, h)
 sound_act_later n m (act.ReplySame v) le h = omega (arith, le, h)
 sound_act_later n m (act.Decline v) le h = omega (arith, le, h)
+sound_act_later n m (act.Native v name) le h = omega (arith, le, h)
+sound_act_later n m (act.Ask v name text) le h = omega (arith, le, h)
 sound_act_later n m act.Take le h = tt
 sound_act_later n m (act.AwaitConnect v) le h = omega (arith, le, h)
 sound_act_later n m (act.AwaitMessage v) le h = omega (arith, le, h)
@@ -139,6 +141,8 @@ sound_act_of extensions variables n (send name target text) h most =
 sound_act_of extensions variables n (reply name text) h most = sound_used name variables.received n _ most.received (λ v below. sound_then (n + 1) (json_of text) _ (λ json. below))
 sound_act_of extensions variables n (reply_same name) h most = sound_used name variables.received n _ most.received (λ v below. below)
 sound_act_of extensions variables n (decline name) h most = sound_used name variables.received n _ most.received (λ v below. below)
+sound_act_of extensions variables n (connect_native name host_name) h most = sound_bound name variables.channels n most.channels
+sound_act_of extensions variables n (send_native name host_name text) h most = sound_then (n + 1) (json_of text) _ (λ json. sound_bound name variables.asked n most.asked)
 sound_act_of extensions variables n take_one h most = tt
 sound_act_of extensions variables n (await_event awaited name) h most = sound_await_of variables n awaited name most
 sound_act_of extensions variables n (echo k) h most = h
@@ -200,6 +204,8 @@ most_after n variables (send name target text) most = more_asked n variables nam
 most_after n variables (reply name text) most = one_more n variables most
 most_after n variables (reply_same name) most = one_more n variables most
 most_after n variables (decline name) most = one_more n variables most
+most_after n variables (connect_native name host_name) most = more_channels n variables name most
+most_after n variables (send_native name host_name text) most = more_asked n variables name most
 most_after n variables take_one most = one_more n variables most
 most_after n variables (await_event event.Connect name) most = more_channels n variables name most
 most_after n variables (await_event event.Message name) most = one_more n variables most

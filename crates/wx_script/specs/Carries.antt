@@ -2,7 +2,7 @@
 use Rattle.std.specs.Prelude.{◌≡◌, List, slice_get, Some, IsTrue, reverse}
 use Rattle.wx_id.specs.declared.numbers.ContextNo.{ContextNo}
 use Rattle.wx_machine.specs.declared.entries.Who.{Who}
-use Rattle.wx_machine.specs.declared.entries.Who.TheVariants.{Context as ByContext}
+use Rattle.wx_machine.specs.declared.entries.Who.TheVariants.{Context as ByContext, Host as ByHost}
 use Rattle.wx_machine.specs.declared.entries.Call.TheVariants.{Take}
 use Rattle.wx_machine.specs.declared.entries.Entry.{Entry}
 use Rattle.wx_machine.specs.Contexts.{is_enter}
@@ -24,10 +24,12 @@ pub record IsAskedOf (scripts : List (List Command)) (past : List Entry) (c : Co
   pub is_endpoint : slice_get scripts c.0 ≡ Some script
   pub asked : MayCome past c (next_of script c past) e
 
+-- a context's entry is its endpoint's, and what that endpoint's script asks for; a host has no script
 abbrev pub AskedOf : List (List Command) → List Entry → Who → Entry → Type 0
 AskedOf scripts past (ByContext c) e = IsAskedOf scripts past c e
+AskedOf scripts past (ByHost h) e = Unit {0}
 
--- the entry is its endpoint's, and what that endpoint's script asks for
+-- the same by who made the entry
 abbrev pub FollowsScript : List (List Command) → List Entry → Entry → Type 0
 FollowsScript scripts past e = AskedOf scripts past e.who e
 

@@ -22,7 +22,7 @@ use Rattle.wx_script.specs.declared.scene.SceneEndpoint.{SceneEndpoint}
 use Rattle.wx_script.specs.declared.scene.SceneKind.{SceneKind}
 use Rattle.wx_script.specs.declared.scene.SceneKind.TheVariants as kind
 use Rattle.wx_script.specs.Names.{has_extension, has_host, has_endpoint, id_under, place_in, binding}
-use Rattle.wx_script.specs.Line.{NamedTarget, own, extension_named, tab, NamedAct, NamedCommand, NamedContext, Line, listen, connect, post, disconnect, send, reply, reply_same, decline, take_one, await_event, echo, plain, repeat, page, content, web, comment, extension, host, endpoint, script}
+use Rattle.wx_script.specs.Line.{NamedTarget, own, extension_named, tab, NamedAct, NamedCommand, NamedContext, Line, listen, connect, post, disconnect, send, reply, reply_same, decline, connect_native, send_native, take_one, await_event, echo, plain, repeat, page, content, web, comment, extension, host, endpoint, script}
 
 pub record Draft : Type 0 where
   pub extensions : List SceneExtension
@@ -162,6 +162,10 @@ act_of extensions variables (reply_same name) = do
 act_of extensions variables (decline name) = do
   v ← used name variables.received
   Ok (act.Decline v)
+act_of extensions variables (connect_native name host_name) = Ok (act.Native (bound name variables.channels) host_name)
+act_of extensions variables (send_native name host_name text) = do
+  json ← json_of text
+  Ok (act.Ask (bound name variables.asked) host_name json)
 act_of extensions variables take_one = Ok act.Take
 act_of extensions variables (await_event awaited name) = await_of variables awaited name
 act_of extensions variables (echo n) = Ok (act.Echo n)
@@ -170,7 +174,9 @@ act_of extensions variables (echo n) = Ok (act.Echo n)
 abbrev pub variables_after : VariableNames → NamedAct → VariableNames
 variables_after variables (connect name target port) = record variables { channels = binding name variables.channels }
 variables_after variables (await_event event.Connect name) = record variables { channels = binding name variables.channels }
+variables_after variables (connect_native name host_name) = record variables { channels = binding name variables.channels }
 variables_after variables (send name target text) = record variables { asked = binding name variables.asked }
+variables_after variables (send_native name host_name text) = record variables { asked = binding name variables.asked }
 variables_after variables (await_event event.Request name) = record variables { received = binding name variables.received }
 variables_after variables _ = variables
 

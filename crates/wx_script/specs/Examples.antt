@@ -136,6 +136,21 @@ OneName =
     ∷ act.Post (var 1) (codes "1") ∷ act.AwaitReply (var 0) ∷ act.Decline (var 0) ∷ []))
     ∷ [])
 
+-- hosts by words that need be no host's name: one on a channel, one for a request that was asked
+abbrev pub natives : List (List ℕ)
+natives =
+    extension_x ∷ codes "page p x /p"
+    ∷ codes "  connect b own" ∷ codes "  native v e" ∷ codes "  ask v e 1" ∷ codes "  repeat 2 native v E.."
+    ∷ codes "  post v 1" ∷ codes "  await reply v" ∷ []
+
+abbrev pub Natives : Type 0
+Natives =
+    IsScene natives x_declared
+    (page_of_x (codes "p") (codes "/p")
+    (Plain (act.Connect (var 0) Own []) ∷ Plain (act.Native (var 1) (codes "e")) ∷ Plain (act.Ask (var 0) (codes "e") (codes "1")) ∷ Repeat 2 (act.Native (var 1) (codes "E.."))
+    ∷ Plain (act.Post (var 1) (codes "1")) ∷ Plain (act.AwaitReply (var 0)) ∷ [])
+    ∷ [])
+
 -- each target, and what may stand behind it
 abbrev pub targets : List (List ℕ)
 targets =

@@ -27,6 +27,8 @@ pub data NamedAct : Type 0 where
   reply : List ℕ → List ℕ → NamedAct
   reply_same : List ℕ → NamedAct
   decline : List ℕ → NamedAct
+  connect_native : List ℕ → List ℕ → NamedAct
+  send_native : List ℕ → List ℕ → List ℕ → NamedAct
   take_one : NamedAct
   await_event : Awaited → List ℕ → NamedAct
   echo : ℕ → NamedAct
@@ -261,6 +263,28 @@ channel_act_with head behind =
     else if bytes_eq head (codes "disconnect") then disconnect_at behind
     else None
 
+-- ---- commands that start a native host
+
+-- VAR WORD, the host's name
+unfoldable pub native_at : List ℕ → Option NamedAct
+native_at text = do
+  var ← name_at text
+  where_so (is_word var.1) (connect_native var.0 var.1)
+
+-- VAR WORD JSON: the rest of the line, at least one byte
+unfoldable pub ask_at : List ℕ → Option NamedAct
+ask_at text = do
+  var ← name_at text
+  json ← rest var.1
+  where_so (is_word (word var.1) && is_given json) (send_native var.0 (word var.1) json)
+
+-- the word of a command that starts a host, or of one on a channel, and what stands behind it
+unfoldable pub native_act_with : List ℕ → List ℕ → Option NamedAct
+native_act_with head behind =
+    if bytes_eq head (codes "native") then native_at behind
+    else if bytes_eq head (codes "ask") then ask_at behind
+    else channel_act_with head behind
+
 -- ---- commands on requests
 
 -- VAR TARGET JSON: the rest of the line, at least one byte
@@ -290,7 +314,7 @@ request_act_with head behind =
     if bytes_eq head (codes "send") then send_at behind
     else if bytes_eq head (codes "reply") then reply_at behind
     else if bytes_eq head (codes "decline") then decline_at behind
-    else channel_act_with head behind
+    else native_act_with head behind
 
 -- ---- commands
 

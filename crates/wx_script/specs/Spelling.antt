@@ -7,7 +7,7 @@ use Rattle.wx_context.specs.Paths.{is_printable, is_page_path}
 use Rattle.wx_script.specs.declared.line.Awaited.{Awaited}
 use Rattle.wx_script.specs.declared.line.Awaited.TheVariants as event
 use Rattle.wx_script.specs.Words.{word, behind, is_name, is_word, is_small, is_count, is_given, is_comment}
-use Rattle.wx_script.specs.Line.{NamedTarget, own, extension_named, tab, NamedAct, NamedCommand, Document, NamedContext, Line, listen, connect, post, disconnect, send, reply, reply_same, decline, take_one, await_event, echo, plain, repeat, page, content, web, comment, extension, host, endpoint, script}
+use Rattle.wx_script.specs.Line.{NamedTarget, own, extension_named, tab, NamedAct, NamedCommand, Document, NamedContext, Line, listen, connect, post, disconnect, send, reply, reply_same, decline, connect_native, send_native, take_one, await_event, echo, plain, repeat, page, content, web, comment, extension, host, endpoint, script}
 
 infixr 6 ◌␣◌
 -- a word, one space, and what follows
@@ -61,6 +61,8 @@ act_spelling (send var target text) = codes "send" ␣ var ␣ target_spelling t
 act_spelling (reply var text) = codes "reply" ␣ var ␣ text
 act_spelling (reply_same var) = codes "reply" ␣ codes "same" ␣ var
 act_spelling (decline var) = codes "decline" ␣ var
+act_spelling (connect_native var name) = codes "native" ␣ var ␣ name
+act_spelling (send_native var name text) = codes "ask" ␣ var ␣ name ␣ text
 act_spelling take_one = codes "take"
 act_spelling (await_event awaited var) = codes "await" ␣ event_word awaited ␣ var
 act_spelling (echo n) = codes "echo" ␣ decimal n
@@ -108,6 +110,8 @@ IsNamedAct (send var target text) = IsTrue (is_name var) × IsNamedTarget target
 IsNamedAct (reply var text) = IsTrue (is_name var) × IsTrue (is_given text)
 IsNamedAct (reply_same var) = IsTrue (is_name var)
 IsNamedAct (decline var) = IsTrue (is_name var)
+IsNamedAct (connect_native var name) = IsTrue (is_name var) × IsTrue (is_word name)
+IsNamedAct (send_native var name text) = IsTrue (is_name var) × IsTrue (is_word name) × IsTrue (is_given text)
 IsNamedAct take_one = Unit {0}
 IsNamedAct (await_event awaited var) = IsTrue (is_name var)
 IsNamedAct (echo n) = IsTrue (is_count n)

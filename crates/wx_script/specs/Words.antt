@@ -45,7 +45,7 @@ is_identifier (b ∷ bs) = is_letter b && list_all is_name_byte bs && nat_lt (le
 abbrev pub is_name : List ℕ → Bool
 is_name text = is_identifier text && not (bytes_eq text (codes "same"))
 
--- an id, a file, a path, a URL or a port name: one or more printable bytes
+-- an id, a file, a path, a URL, a port name or a host's name: one or more printable bytes
 abbrev pub is_word : List ℕ → Bool
 is_word [] = false
 is_word (b ∷ bs) = is_printable (b ∷ bs)

@@ -216,6 +216,13 @@ impl Draft {
             }
             NamedAct::ReplySame(name) => Ok(Act::ReplySame(used(received, name)?)),
             NamedAct::Decline(name) => Ok(Act::Decline(used(received, name)?)),
+            NamedAct::Native(name, host) => {
+                Ok(Act::Native(bound(channels, name)?, Utf8Text::new(alloc, host)?))
+            }
+            NamedAct::Ask(name, host, json) => {
+                let json = json_text(alloc, json)?;
+                Ok(Act::Ask(bound(asked, name)?, Utf8Text::new(alloc, host)?, json))
+            }
             NamedAct::Take => Ok(Act::Take),
             NamedAct::Await(event, name) => awaiting(&self.variables, event, name),
             NamedAct::Echo(n) => Ok(Act::Echo(n)),
@@ -405,10 +412,10 @@ fn bind_by(
     ensures { OnOk result (variables.new ≡ variables_after variables.old (act_view act.entry)) }
 {
     match act {
-        NamedAct::Connect(name, _, _) | NamedAct::Await(Awaited::Connect, name) => {
-            variables.channels.add(alloc, name)
-        }
-        NamedAct::Send(name, _, _) => variables.asked.add(alloc, name),
+        NamedAct::Connect(name, _, _)
+        | NamedAct::Native(name, _)
+        | NamedAct::Await(Awaited::Connect, name) => variables.channels.add(alloc, name),
+        NamedAct::Send(name, _, _) | NamedAct::Ask(name, _, _) => variables.asked.add(alloc, name),
         NamedAct::Await(Awaited::Request, name) => variables.received.add(alloc, name),
         _ => Ok(()),
     }

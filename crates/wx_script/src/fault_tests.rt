@@ -20,11 +20,15 @@ enum Above {
     Asked,
     /// In line 4 an `await request` of the page, which binds the request `r`.
     Received,
+    /// In line 4 a `native` of the page, which binds the channel `ch`.
+    Started,
+    /// In line 4 an `ask` of the page, which binds the request `r`.
+    AskedHost,
     /// The extension, and 1,024 of its pages in lines 3 to 1,026.
     Pages,
 }
 
-use Above::{Asked, Channel, Extension, Head, Nothing, Page, Pages, Received};
+use Above::{Asked, AskedHost, Channel, Extension, Head, Nothing, Page, Pages, Received, Started};
 use SceneKind::{Form, Id, Json, Many, Order, Repeated, Unbound, Unknown, Url};
 
 const EXTENSION: &str = "wx scene 1 chrome\nextension x aaaaaaaaaaaaaaaaaaaaaaaaaaaaaaaa\n";
@@ -39,6 +43,8 @@ fn scene_text(alloc: Global, above: Above, below: &str) -> Result<String, AllocE
         Channel => format!(in alloc; "{EXTENSION}page p x /p\n  connect ch own\n{below}"),
         Asked => format!(in alloc; "{EXTENSION}page p x /p\n  send r own 1\n{below}"),
         Received => format!(in alloc; "{EXTENSION}page p x /p\n  await request r\n{below}"),
+        Started => format!(in alloc; "{EXTENSION}page p x /p\n  native ch e\n{below}"),
+        AskedHost => format!(in alloc; "{EXTENSION}page p x /p\n  ask r e 1\n{below}"),
         Pages => {
             let mut text = pages(alloc, 1024)?;
             text.push_str(below)?;
@@ -176,8 +182,6 @@ fn commands() -> &'static [Case] {
         (Channel, "  post CH 1\n", 5, Form),
         (Channel, "  disconnect ch \n", 5, Form),
         (Channel, "  await close ch ch\n", 5, Form),
-        (Page, "  native n w\n", 4, Form),
-        (Page, "  ask r w 1\n", 4, Form),
     ]
 }
 
@@ -239,6 +243,35 @@ fn requests() -> &'static [Case] {
     ]
 }
 
+/// Commands that start a native host, of no form.
+fn natives() -> &'static [Case] {
+    &[
+        (Page, "native n e\n", 4, Form),
+        (Page, "  native\n", 4, Form),
+        (Page, "  native n\n", 4, Form),
+        (Page, "  native n \n", 4, Form),
+        (Page, "  native e.f g\n", 4, Form),
+        (Page, "  native same e\n", 4, Form),
+        (Page, "  native  n e\n", 4, Form),
+        (Page, "  native n  e\n", 4, Form),
+        (Page, "  native n e \n", 4, Form),
+        (Page, "  native n e 1\n", 4, Form),
+        (Page, "  native n e\r\n", 4, Form),
+        (Page, "  native n e\x7f\n", 4, Form),
+        (Page, "  native n \u{e9}\n", 4, Form),
+        (Page, "  repeat 2 native n\n", 4, Form),
+        (Page, "  ask\n", 4, Form),
+        (Page, "  ask r\n", 4, Form),
+        (Page, "  ask r e\n", 4, Form),
+        (Page, "  ask r e \n", 4, Form),
+        (Page, "  ask same e 1\n", 4, Form),
+        (Page, "  ask  r e 1\n", 4, Form),
+        (Page, "  ask r  e 1\n", 4, Form),
+        (Page, "  ask r e\t 1\n", 4, Form),
+        (Page, "  await native n\n", 4, Form),
+    ]
+}
+
 /// Counts, and what is repeated.
 fn counts() -> &'static [Case] {
     &[
@@ -274,6 +307,8 @@ fn order_and_ids() -> &'static [Case] {
         (Head, "  repeat 3 disconnect ch\n", 2, Order),
         (Head, "  connect c ext nobody\n", 2, Order),
         (Head, "  send r own {\n", 2, Order),
+        (Head, "  native n e\n", 2, Order),
+        (Extension, "  ask r e {\n", 3, Order),
         (Head, "extension x abc\n", 2, Id),
         (
             Head,
@@ -396,6 +431,26 @@ fn unbound() -> &'static [Case] {
     ]
 }
 
+/// Variables that are bound by the start of a native host, in another sort than is used.
+fn unbound_by_natives() -> &'static [Case] {
+    &[
+        (Page, "  post n 1\n  native n e\n", 4, Unbound),
+        (Page, "  await reply r\n  ask r e 1\n", 4, Unbound),
+        (Started, "  await reply ch\n", 5, Unbound),
+        (Started, "  reply ch 1\n", 5, Unbound),
+        (Started, "  decline ch\n", 5, Unbound),
+        (Started, "  post n 1\n", 5, Unbound),
+        (Started, "page q x /q\n  post ch 1\n", 6, Unbound),
+        (AskedHost, "  post r {\n", 5, Unbound),
+        (AskedHost, "  disconnect r\n", 5, Unbound),
+        (AskedHost, "  await message r\n", 5, Unbound),
+        (AskedHost, "  await close r\n", 5, Unbound),
+        (AskedHost, "  reply r 1\n", 5, Unbound),
+        (AskedHost, "  reply same r\n", 5, Unbound),
+        (AskedHost, "page q x /q\n  await reply r\n", 6, Unbound),
+    ]
+}
+
 /// Messages that are no JSON text, and endpoints that are one too many.
 fn json_and_many() -> &'static [Case] {
     &[
@@ -412,6 +467,11 @@ fn json_and_many() -> &'static [Case] {
         (Page, "  send r tab 7  frame 1\n", 4, Json),
         (Page, "  send r tab 7 frame 1 x\n", 4, Json),
         (Received, "  reply r {\n", 5, Json),
+        (Started, "  post ch {\n", 5, Json),
+        (Page, "  ask r e {\n", 4, Json),
+        (Page, "  ask r e f 1\n", 4, Json),
+        (Page, "  ask r e 1 2\n", 4, Json),
+        (Page, "  repeat 2 ask r e tru", 4, Json),
         (Pages, "page p x /p\n", 1027, Many),
         (Pages, "page p x /p", 1027, Many),
         (
@@ -435,11 +495,13 @@ fn first_faulty_lines(rt: HostRuntime) -> Result<(), Fail> {
         commands(),
         flags_and_targets(),
         requests(),
+        natives(),
         counts(),
         order_and_ids(),
         repeated(),
         unknown_and_urls(),
         unbound(),
+        unbound_by_natives(),
         json_and_many(),
     ];
     for cases in table {

@@ -2,7 +2,7 @@
 //! does nothing.
 ghost use Rattle.std.specs.Prelude.{◌≡◌, Ok, Err, [], ◌∷◌, ◌++◌, codes};
 ghost use Rattle.wx_script.specs.declared.scene.SceneKind.TheVariants as kind;
-ghost use Rattle.wx_script.specs.Examples.{HasFault, IsScene, ReadsTheSpelling, HasOneSpelling, TwoPages, NumberedVariables, CommentsPassedOver, Awaiting, RepeatBinds, LastLineUnended, Requests, OneName, Targets, Files, Documents, NoWebUrl, without_files, extension_x};
+ghost use Rattle.wx_script.specs.Examples.{HasFault, IsScene, ReadsTheSpelling, HasOneSpelling, TwoPages, NumberedVariables, CommentsPassedOver, Awaiting, RepeatBinds, LastLineUnended, Requests, OneName, Natives, Targets, Files, Documents, NoWebUrl, without_files, extension_x};
 ghost use Rattle.wx_script.specs.Scene.{scene_of, fault_at};
 
 /// Every line has one spelling.
@@ -25,11 +25,12 @@ pub fn scenes()
     ensures repeat_binds { RepeatBinds }
 {}
 
-/// Scenes of requests, targets, files, content scripts and web pages that are read.
+/// Scenes of requests, native hosts, targets, files, content scripts and web pages that are read.
 #[tactic(auto, unfolding(crate::proofs::OnLiterals::scenes_on_literals))]
 pub fn requests_targets_and_files()
     ensures requests { Requests }
     ensures one_name_for_each_sort { OneName }
+    ensures natives { Natives }
     ensures targets { Targets }
     ensures files { Files }
     ensures documents { Documents }
@@ -57,6 +58,10 @@ pub fn faults()
     ensures unbound_before_json { HasFault (extension_x ∷ codes "page p x /p" ∷ codes "  post ch {" ∷ []) 4 kind.Unbound }
     ensures files_of_one_name { HasFault (codes "host a/e.json" ∷ codes "host b/e.json" ∷ []) 3 kind.Repeated }
     ensures another_sort_of_variable { HasFault (extension_x ∷ codes "page p x /p" ∷ codes "  send r own 1" ∷ codes "  reply r 1" ∷ []) 5 kind.Unbound }
+    ensures native_channel_awaited_as_a_request { HasFault (extension_x ∷ codes "page p x /p" ∷ codes "  native n e" ∷ codes "  await reply n" ∷ []) 5 kind.Unbound }
+    ensures request_of_a_host_used_as_a_channel { HasFault (extension_x ∷ codes "page p x /p" ∷ codes "  ask r e 1" ∷ codes "  post r 1" ∷ []) 5 kind.Unbound }
+    ensures ask_without_json { HasFault (extension_x ∷ codes "page p x /p" ∷ codes "  ask r e" ∷ []) 4 kind.Form }
+    ensures ask_of_no_json_text { HasFault (extension_x ∷ codes "page p x /p" ∷ codes "  ask r e {" ∷ []) 4 kind.Json }
     ensures flags_in_another_order { HasFault (extension_x ∷ codes "page p x /p" ∷ codes "  listen message connect" ∷ []) 4 kind.Form }
     ensures frame_without_json { HasFault (extension_x ∷ codes "page p x /p" ∷ codes "  send r tab 7 frame 1" ∷ []) 4 kind.Form }
     ensures frame_behind_two_spaces { HasFault (extension_x ∷ codes "page p x /p" ∷ codes "  send r tab 7  frame 1" ∷ []) 4 kind.Json }

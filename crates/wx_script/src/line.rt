@@ -41,6 +41,10 @@ pub(crate) enum NamedAct<'a> {
     Reply(&'a str, &'a [u8]),
     ReplySame(&'a str),
     Decline(&'a str),
+    /// With the host's name.
+    Native(&'a str, &'a str),
+    /// With the host's name.
+    Ask(&'a str, &'a str, &'a [u8]),
     Take,
     Await(Awaited, &'a str),
     Echo(u32),
@@ -353,6 +357,44 @@ fn channel_act_of<'a>(word: &[u8], rest: &'a [u8]) -> Option<NamedAct<'a>>
     }
 }
 
+#[tactic(auto, unfolding(crate::specs::Line::native_at))]
+fn native_of(text: &[u8]) -> Option<NamedAct<'_>>
+    ensures { option_map act_view result ≡ forms.native_at text.now }
+{
+    let (var, word) = name_and_rest(text)?;
+    let host = word_text(word)?;
+    Some(NamedAct::Native(var, host))
+}
+
+#[tactic(auto, unfolding(crate::specs::Line::ask_at))]
+fn ask_of(text: &[u8]) -> Option<NamedAct<'_>>
+    ensures { option_map act_view result ≡ forms.ask_at text.now }
+{
+    let (var, rest) = name_and_rest(text)?;
+    let (word, json) = split_word(rest);
+    let json = json?;
+    let host = word_text(word)?;
+    if is_given(json) {
+        Some(NamedAct::Ask(var, host, json))
+    } else {
+        None
+    }
+}
+
+/// An act that starts a native host, or one on a channel, by its first word and what stands behind that.
+#[tactic(auto, unfolding(crate::specs::Line::native_act_with))]
+fn native_act_of<'a>(word: &[u8], rest: &'a [u8]) -> Option<NamedAct<'a>>
+    ensures { option_map act_view result ≡ forms.native_act_with word.now rest.now }
+{
+    if word == b"native".as_slice() {
+        native_of(rest)
+    } else if word == b"ask".as_slice() {
+        ask_of(rest)
+    } else {
+        channel_act_of(word, rest)
+    }
+}
+
 #[tactic(auto, unfolding(crate::specs::Line::send_at))]
 fn send_of(text: &[u8]) -> Option<NamedAct<'_>>
     ensures { option_map act_view result ≡ forms.send_at text.now }
@@ -403,7 +445,7 @@ fn request_act_of<'a>(word: &[u8], rest: &'a [u8]) -> Option<NamedAct<'a>>
     } else if word == b"decline".as_slice() {
         decline_of(rest)
     } else {
-        channel_act_of(word, rest)
+        native_act_of(word, rest)
     }
 }
 

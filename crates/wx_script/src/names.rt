@@ -74,9 +74,9 @@ impl Names {
 /// The names of the variables that a script binds, each sort in the order of first binding.
 #[derive(Drop)]
 pub(crate) struct VariableNames {
-    /// Bound by `connect` and `await connect`.
+    /// Bound by `connect`, `native` and `await connect`.
     pub(crate) channels: Names,
-    /// Bound by `send`.
+    /// Bound by `send` and `ask`.
     pub(crate) asked: Names,
     /// Bound by `await request`.
     pub(crate) received: Names,

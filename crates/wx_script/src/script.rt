@@ -46,6 +46,10 @@ pub enum Act {
     ReplySame(Var),
     /// One `decline` of the variable's request, which was received.
     Decline(Var),
+    /// One `connect_native` of the host of that name; binds the variable to the channel.
+    Native(Var, Utf8Text),
+    /// One `send_native` to the host of that name; binds the variable to the request that it asks.
+    Ask(Var, Utf8Text, JsonText),
     /// One `take`, whatever it answers.
     Take,
     /// Takes until a channel is connected; binds the variable to it.

@@ -123,6 +123,25 @@ fn scenes_that_are_read(rt: HostRuntime) -> Result<(), Fail> {
             1,
             4,
         ),
+        (
+            PAGE,
+            "  native n com.example.echo\n  post n 1\n  await message n\n  disconnect n\n  await close n\n",
+            1,
+            5,
+        ),
+        (
+            PAGE,
+            "  ask r e 1\n  await reply r\n  repeat 2 ask r !~  [1] \r\n",
+            1,
+            3,
+        ),
+        (PAGE, "  native native ask\n  ask ask native 1\n", 1, 2),
+        (
+            PAGE,
+            "  native n same\n  native n E..\n  native n 07\n",
+            1,
+            3,
+        ),
     ] {
         let text = format!(in rt.alloc(); "{above}{below}")?;
         let read = Scene::read(rt.alloc(), text.as_bytes());
@@ -240,6 +259,34 @@ fn files_documents_and_sorts_of_variables(rt: HostRuntime) {
                 _ => assert!(rt; false),
             }
         }
+        _ => assert!(rt; false),
+    }
+}
+
+/// A host that is started on a channel, and one that is asked; the names are any words.
+#[test]
+fn natives(rt: HostRuntime) {
+    let lines =
+        "extension x aaaaaaaaaaaaaaaaaaaaaaaaaaaaaaaa\npage p x /p\n  connect b own\n  native v com.example.echo\n  repeat 3 ask v E..  [1] \n  post v 1\n  await reply v";
+    let Ok(scene) = read_behind_head(rt.alloc(), lines) else {
+        assert!(rt; false);
+        return;
+    };
+    match scene.endpoints() {
+        [p] => match p.script.commands() {
+            [
+                Command::Plain(Act::Connect(b, _, _)),
+                Command::Plain(Act::Native(v, echo)),
+                Command::Repeat(times, Act::Ask(r, name, text)),
+                Command::Plain(Act::Post(k, _)),
+                Command::Plain(Act::AwaitReply(s)),
+            ] => {
+                assert!(rt; b.0 == 0 && v.0 == 1 && r.0 == 0 && k.0 == 1 && s.0 == 0);
+                assert!(rt; echo.as_str() == "com.example.echo" && name.as_str() == "E..");
+                assert!(rt; *times == 3 && text.bytes() == b" [1] ".as_slice());
+            }
+            _ => assert!(rt; false),
+        },
         _ => assert!(rt; false),
     }
 }

@@ -81,7 +81,7 @@ pub(crate) fn is_word(text: &[u8]) -> bool
     !text.is_empty() && are_printable(text)
 }
 
-/// The text of a word: a file, a URL or a port name.
+/// The text of a word: a file, a URL, a port name or a host's name.
 #[tactic(auto, using(crate::proofs::WordLemmas::words_are_utf8))]
 pub(crate) fn word_text(word: &[u8]) -> Option<&str>
     ensures { option_map (λ text. text.now) result ≡ forms.where_so (words.is_word word.now) word.now }

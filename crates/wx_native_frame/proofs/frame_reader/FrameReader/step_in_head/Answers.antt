@@ -19,7 +19,7 @@ returns-in-Some-clause-fault c = λ _.
 pub invariant_of-self-2 : goal.invariant_of-self-2
 invariant_of-self-2 c =
     let early = early_head c.self.inside c.args.self.now c.self.view_is c.requires in
-    fresh _ c.self.invariant.limit (omega arith) (c.self.invariant.early early).fault (omega (arith, c.in_default.ensures)) (omega (arith, c.in_default.ensures)) c.in-Ok.ensures.items (omega (arith, c.in-Ok.ensures.capacity)) c.new-self-inside.ensures.stands c.new-self-inside.ensures.count
+    fresh _ c.self.invariant.limit (omega arith) (c.self.invariant.early early).fault (omega (arith, c.in_default.ensures)) (omega (arith, c.in_default.ensures)) c.in-Ok.ensures.items (omega (arith, c.in-Ok.ensures.capacity)) c.restart.ensures.stands c.restart.ensures.count
 
 pub returns-in_err-more-clause-fault : goal.returns-in_err-more-clause-fault
 returns-in_err-more-clause-fault c =
