@@ -3,7 +3,10 @@
 
 mod list;
 #[cfg(test)]
+mod read_tests;
+#[cfg(test)]
 mod tests;
 
 pub use list::Journal;
+pub use wx_journal_read::{JournalFault, JournalKind, JournalReadFault};
 pub use wx_machine::{Answer, Call, Entry, JsonText, Who};

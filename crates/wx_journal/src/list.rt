@@ -1,11 +1,16 @@
-ghost use Rattle.std.specs.Prelude.{◌≡◌, ◌+◌, ◌<◌, ◌≤◌, [], ◌∷◌, ◌++◌, length, IfOk, IfErr, OnOk, OnErr, IsOk, slice_get, option_copied, ◌==◌};
+ghost use Rattle.std.specs.Prelude.{◌≡◌, List, Ok, ◌+◌, ◌<◌, ◌≤◌, [], ◌∷◌, ◌++◌, length, IfOk, IfErr, OnOk, OnErr, IsOk, slice_get, option_copied, ◌==◌};
 ghost use Rattle.std.specs.Option.{option_and_then};
 ghost use Rattle.wx_machine.specs.Carried.{text_in};
+ghost use Rattle.wx_machine.specs.declared.entries.Entry.{Entry};
+ghost use Rattle.wx_journal_read.specs.Fits.{JournalFits};
+ghost use Rattle.wx_journal_read.specs.Gives.{GivesWhole, IfBad};
+ghost use Rattle.wx_journal_read.specs.Whole.{IsFault};
 ghost use Rattle.wx_journal_text.specs.Text.{journal_text};
 
 use std::alloc::Global;
 use std::marker::Model;
 use wx_id::{EntryNo, NoMemory};
+use wx_journal_read::{JournalReadFault, read};
 use wx_journal_text::print;
 use wx_machine::{Call, Entry, JsonText};
 
@@ -118,6 +123,18 @@ impl Journal {
         ensures { result.now ≡ self.now.entries }
     {
         self.entries.as_slice()
+    }
+
+    /// Reads the journal whose text the bytes are. Whether the broker would answer so is not asked.
+    pub fn read(alloc: Global, bytes: &[u8]) -> Result<Journal, JournalReadFault>
+        ensures found { IfOk result (λ journal. JournalFits journal.entries × (bytes.now ≡ journal_text journal.entries)) }
+        ensures only { (entries : List Entry) → JournalFits entries → bytes.now ≡ journal_text entries → GivesWhole (λ journal. journal.entries) result (Ok entries) }
+        ensures fault { IfBad result (IsFault bytes.now) }
+    {
+        match read(alloc, bytes) {
+            Ok(entries) => Ok(Journal { entries }),
+            Err(fault) => Err(fault),
+        }
     }
 
     /// The text of the journal: a head line, and a line for each entry.

@@ -1,0 +1,12 @@
+pub mod Fields
+pub mod Combined
+pub mod Parts
+pub mod Reasons
+pub mod Calls
+pub mod Answers
+pub mod Entries
+pub mod Behind
+pub mod Numbers
+pub mod Sorts
+pub mod Runs
+pub mod Journals

@@ -1,0 +1,5 @@
+pub mod Reading
+pub mod Fits
+pub mod Grammar
+pub mod Whole
+pub mod Gives
