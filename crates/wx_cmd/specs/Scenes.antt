@@ -4,6 +4,8 @@ use Rattle.wx_outside.specs.Shelf.{Content, present, absent, too_large}
 use Rattle.wx_external.specs.World.{WorldLists}
 use Rattle.wx_machine.specs.declared.entries.Entry.{Entry}
 use Rattle.wx_journal_text.specs.Text.{journal_text}
+use Rattle.wx_journal_read.specs.Fits.{JournalFits}
+use Rattle.wx_journal.specs.Journal.{IsTextOfNoOther}
 use Rattle.wx_script.specs.declared.scene.SceneFault.{SceneFault}
 use Rattle.wx_script.specs.declared.scene.SceneKind.{SceneKind}
 use Rattle.wx_script.specs.declared.scene.SceneKind.TheVariants.{Missing, Large}
@@ -23,10 +25,13 @@ scene_in absent = Err (refusal Missing)
 scene_in too_large = Err (refusal Large)
 scene_in (present bytes) = scene_of bytes
 
--- A run of the scene in this world leaves a journal and comes to this end; the text is the journal's, and the lines tell of
--- the end.
+-- A run of the scene in this world leaves a journal and comes to this end; the text is that journal's and no other's, and the
+-- lines tell of the end.
 pub record IsTextOfRun (world : WorldLists) (scene : SceneValue) (end : RunEnd) (text lines : List ℕ) : Type 0 where
   pub journal : List Entry
   pub run : IsRunOf world scene journal end
   pub text_of_run : text ≡ journal_text journal
+  -- no other journal has this text
+  pub fits : JournalFits journal
+  pub alone : IsTextOfNoOther text journal
   pub lines_of_run : lines ≡ lines_of_end scene (reverse journal) end

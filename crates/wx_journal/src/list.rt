@@ -6,11 +6,13 @@ ghost use Rattle.wx_journal_read.specs.Fits.{JournalFits};
 ghost use Rattle.wx_journal_read.specs.Gives.{GivesWhole, IfBad};
 ghost use Rattle.wx_journal_read.specs.Whole.{IsFault};
 ghost use Rattle.wx_journal_text.specs.Text.{journal_text};
+ghost use Rattle.wx_journal.specs.Journal.{IsTextOfNoOther};
 
 use std::alloc::Global;
 use std::marker::Model;
 use wx_id::{EntryNo, NoMemory};
-use wx_journal_read::{JournalReadFault, read};
+use wx_journal_read::laws::different_texts;
+use wx_journal_read::{JournalReadFault, fits, read};
 use wx_journal_text::print;
 use wx_machine::{Call, Entry, JsonText};
 
@@ -137,10 +139,14 @@ impl Journal {
         }
     }
 
-    /// The text of the journal: a head line, and a line for each entry.
+    /// The text of the journal: a head line, and a line for each entry. It is the text of no other journal.
     pub fn print(&self, alloc: Global) -> Result<Vec<u8>, NoMemory>
-        ensures { IfOk result (λ text. text.items ≡ journal_text self.now.entries) }
+        ensures text { IfOk result (λ text. text.items ≡ journal_text self.now.entries) }
+        ensures fits { JournalFits self.now.entries }
+        ensures alone { IfOk result (λ text. IsTextOfNoOther text.items self.now.entries) }
     {
+        fits::journal(&self.entries);
+        different_texts();
         match print(alloc, &self.entries) {
             Ok(text) => Ok(text),
             Err(_) => Err(NoMemory),
