@@ -2,6 +2,8 @@
 #![tactic(auto)]
 
 mod endings;
+#[cfg(test)]
+mod host_tests;
 mod judging;
 #[cfg(test)]
 mod manifest_tests;

@@ -21,14 +21,14 @@ host m/e.json
 extension x aaaaaaaaaaaaaaaaaaaaaaaaaaaaaaaa x.json
 ";
 
-const EXTENSION: &str =
+pub const EXTENSION: &str =
     r#"{"manifest_version":3,"name":"x","version":"1","permissions":["nativeMessaging"]}"#;
 
-const HOST: &str =
+pub const HOST: &str =
     r#"{"name":"e","description":"d","path":"/bin/echo","type":"stdio","allowed_origins":["chrome-extension://aaaaaaaaaaaaaaaaaaaaaaaaaaaaaaaa/"]}"#;
 
 /// A shelf of these files.
-fn shelf_of(alloc: Global, named: &[(&str, &str)]) -> Result<MemoryShelf, AllocError> {
+pub fn shelf_of(alloc: Global, named: &[(&str, &str)]) -> Result<MemoryShelf, AllocError> {
     let mut files = Vec::new(alloc);
     for (name, text) in named {
         files.push(MemoryFile {
