@@ -1,0 +1,5 @@
+pub mod ReadingLemmas
+pub mod PipeLemmas
+pub mod HostLemmas
+pub mod StepLemmas
+pub mod TurnLemmas
