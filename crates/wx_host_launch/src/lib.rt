@@ -9,6 +9,8 @@ mod reading;
 mod records;
 mod sending;
 mod starter;
+#[cfg(test)]
+mod tests;
 mod turns;
 
 pub use children::{MemoryChild, MemoryIn, MemoryOut};
