@@ -3,3 +3,4 @@ pub mod PipeLemmas
 pub mod HostLemmas
 pub mod StepLemmas
 pub mod TurnLemmas
+pub mod DeskLemmas

@@ -6,3 +6,4 @@ pub mod Reading
 pub mod Halves
 pub mod Turns
 pub mod Memory
+pub mod TestDesks

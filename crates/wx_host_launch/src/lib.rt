@@ -9,6 +9,7 @@ mod reading;
 mod records;
 mod sending;
 mod starter;
+mod test_desk;
 #[cfg(test)]
 mod tests;
 mod turns;
@@ -19,6 +20,7 @@ pub use memory::MemoryStarter;
 pub use pipes::{HostIn, HostOut};
 pub use records::{MemoryProgram, MemoryRecord};
 pub use starter::{StartFault, Starter};
+pub use test_desk::{Stage, TestDesk};
 pub use turns::{InTurn, OutTurn, in_turn, out_turn};
 pub use wx_host_manifest::Arguments;
 pub use wx_outside::Failed;
