@@ -1,0 +1,6 @@
+pub mod ReadingLemmas
+pub mod PipeLemmas
+pub mod HostLemmas
+pub mod StepLemmas
+pub mod TurnLemmas
+pub mod DeskLemmas

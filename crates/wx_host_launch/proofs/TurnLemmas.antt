@@ -1,0 +1,286 @@
+-- The two halves of a turn.
+use Rattle.std.proofs.Common.{◌≡◌, ℕ, ◌≤◌, List, [], ◌∷◌, ◌++◌, length, take, Bool, true, false, ◌||◌, Option, Some, None, refl, ap, ◌∙◌, sym, subst, arith}
+use Rattle.std.specs.Prelude.{option_to_list}
+use Rattle.std.proofs.lemmas.List.{append-nil, map-append}
+use Rattle.wx_id.specs.declared.numbers.HostNo.{HostNo}
+use Rattle.wx_id.specs.declared.numbers.EntryNo.{EntryNo}
+use Rattle.wx_native_frame.specs.Frames.{Unfinished, frame, IsFrame}
+use Rattle.wx_native_frame.specs.Splits.{frames, IsSplit}
+use Rattle.wx_native_frame.proofs.SplitLaws.{split_nothing, split_frame, split_rest}
+use Rattle.wx_native_frame.proofs.FrameLaws.{short_under_way}
+use Rattle.wx_machine.specs.declared.entries.Call.{Call}
+use Rattle.wx_machine.specs.declared.entries.Call.TheVariants.{HostTake, HostSaid, HostEnded}
+use Rattle.wx_machine.specs.declared.entries.Reason.{Reason}
+use Rattle.wx_machine.specs.declared.entries.Reason.TheVariants.{StartFailed, ReadFailed, WriteFailed, TooLong, BadJson, Cut, Exited, Closed}
+use Rattle.wx_machine.specs.declared.entries.Answer.{Answer}
+use Rattle.wx_machine.specs.declared.entries.Answer.TheVariants as answer
+use Rattle.wx_machine.specs.declared.entries.Entry.{Entry}
+use Rattle.wx_machine.specs.declared.entries.TheConstants.{LONGEST, LONGEST_SAID}
+use Rattle.wx_machine.specs.Answers.{is_host_ready}
+use Rattle.wx_machine.specs.Carried.{text_of}
+use Rattle.wx_machine.specs.Texts.{next_text, said_closed}
+use Rattle.wx_outside.specs.Causes.{Rose}
+use Rattle.wx_outside.specs.Sink.{added, AddsFront}
+use Rattle.wx_host_launch.specs.History.{Seen, entries_in, EachOwn}
+use Rattle.wx_host_launch.specs.Pipes.{InState, OutState, Gives}
+use Rattle.wx_host_launch.specs.Steps.{DeskState, IsSound, past_of, MakesNone, MakesOne, TakesNews, FindsNoNews}
+use Rattle.wx_host_launch.specs.Halves.{text_taken, texts_taken, Sends, whole, in_part, ends_by_write, EndsLast, TakesReady, IsInHalf, EndsFor, IsCause, IsOutHalf}
+use Rattle.wx_host_launch.specs.Turns.{IsInTurn, IsOutTurn, IsClosedTurn, at_once, behind_write, Says, EndsOrWaits}
+use Rattle.wx_host_launch.specs.declared.turns.InTurn.TheVariants as into
+use Rattle.wx_host_launch.specs.declared.turns.OutTurn.{OutTurn}
+use Rattle.wx_host_launch.specs.declared.turns.OutTurn.TheVariants as out
+use Rattle.wx_host_launch.specs.Reading.{HasNoFrame, IsReadingEnd, Keeps, all, IsRead}
+use Rattle.wx_host_launch.specs.declared.reading.Heard.TheVariants.{Text, Ends as HasEnd, NoMemory}
+use Rattle.wx_host_launch.proofs.ReadingLemmas.{gives_nothing}
+use Rattle.wx_host_launch.proofs.HostLemmas.{HasShortText, taken_short, text_of-more, said_closed-more}
+use Rattle.wx_host_launch.proofs.StepLemmas.{past-others, none_twice, none_then_one, none_then_ends, none_then_text, Stretch, stretch_none, stretch_own, stretch_twice}
+
+-- Taking
+
+-- the text that a take named stands in its entry, and is not too long
+pub text_lent : (start old : DeskState) (n : EntryNo) → IsSound old → TakesNews start old (answer.Text n) → (old.lent ≡ Some n) × HasShortText (past_of old) n
+text_lent start old n sound h =
+    let D : DeskState → Type 0 = IsSound in
+    let grown = subst D h.made sound in
+    let short = taken_short h.between.world (past_of h.between) h.between.host n grown.legal.0 grown.legal.1.answered in
+    let P : DeskState → Type 0 = λ d. (d.lent ≡ Some n) × HasShortText (past_of d) n in
+    subst P (sym h.made) (refl, record { text = short.text; carried = text_of-more (_ ∷ []) (past_of h.between) n short.text short.carried; short = short.short })
+
+taken_stretch : (start old : DeskState) (a : Answer) → TakesNews start old a → Stretch (TakesReady start.host) start old (HostTake ∷ []) (λ past. text_taken past HostTake a) []
+taken_stretch start old a h =
+    stretch_own (TakesReady start.host) start h.between old HostTake a h.others (ap (λ (d : DeskState). d.history) h.made) (ap (is_host_ready (past_of h.between)) (sym h.others.same_host) ∙ h.ready)
+
+pub lent_short : (past : List Entry) (n : EntryNo) (t : List ℕ) → HasShortText past n → text_of past n ≡ Some t → length t ≤ LONGEST
+lent_short past n t h carried =
+    let both : Some h.text ≡ Some t = sym h.carried ∙ carried in
+    let same : h.text ≡ t = cc in
+    let short = h.short in
+    omega (arith, ap length same)
+
+-- The half of the input
+
+pub in_half : (old new : DeskState) (before now : InState) (refused : Bool) (bytes : List ℕ) (calls : List Call) (taken : List Entry → List (List ℕ)) (said : List (List ℕ)) → Stretch (TakesReady old.host) old new calls taken said → now.sent ≡ added before.sent bytes
+    → Sends (Rose before.faults now.faults) (taken (past_of new)) bytes (ends_by_write calls || refused) → EndsLast (Rose before.faults now.faults) calls → IsInHalf old new before now refused
+in_half old new before now refused bytes calls taken said s sent sends ends =
+    let T : List (List ℕ) → Type 0 = λ ts. Sends (Rose before.faults now.faults) ts bytes (ends_by_write calls || refused) in
+    let C : List Call → Type 0 = λ cs. Sends (Rose before.faults now.faults) (texts_taken (past_of new) s.more) bytes (ends_by_write cs || refused) in
+    record {
+      more = s.more;
+      seen = s.seen;
+      bytes = bytes;
+      sent = sent;
+      frames = subst C (sym s.calls_are) (subst T (sym (s.taken_are (past_of new))) sends);
+      ended = subst (EndsLast (Rose before.faults now.faults)) (sym s.calls_are) ends;
+      ready = s.each;
+    }
+
+added_nothing : (sent : Option (List ℕ)) → sent ≡ added sent []
+added_nothing None = refl
+added_nothing (Some s) = ap Some (sym (append-nil s))
+
+same_sent : (before now : InState) → now ≡ before → now.sent ≡ added before.sent []
+same_sent before now same = ap (λ (i : InState). i.sent) same ∙ added_nothing before.sent
+
+-- nothing was taken
+nothing_in : (old between new : DeskState) (before now : InState) (refused : Bool) → MakesNone old between → new.history ≡ between.history → now ≡ before → IsInHalf old new before now refused
+nothing_in old between new before now refused none same is =
+    in_half old new before now refused [] [] (λ past. []) [] (stretch_none (TakesReady old.host) old between new none same) (same_sent before now is) (whole refl) tt
+
+pub waits_in : (old new : DeskState) (before now : InState) → FindsNoNews old new → now ≡ before → IsInTurn old new before now into.Waits
+waits_in old new before now h is = record { half = nothing_in old h.between new before now false h.others (ap (λ (d : DeskState). d.history) h.left) is; came = (h, is) }
+
+pub refused_in : (old new : DeskState) (before now : InState) → MakesNone old new → now ≡ before → IsInTurn old new before now into.NoMemory
+refused_in old new before now h is = record { half = nothing_in old new new before now true h refl is; came = at_once h is }
+
+pub closed_in : (old new : DeskState) (before now : InState) → TakesNews old new answer.End → now ≡ record before { closed = true } → IsInTurn old new before now into.Closed
+closed_in old new before now h is = record {
+  half = in_half old new before now false [] (HostTake ∷ []) (λ past. []) [] (taken_stretch old new answer.End h) (ap (λ (i : InState). i.sent) is ∙ added_nothing before.sent) (whole refl) (tt, tt);
+  came = (h, is);
+}
+
+-- the text that was taken
+one_taken : (past : List Entry) (n : EntryNo) (t : List ℕ) → text_of past n ≡ Some t → text_taken past HostTake (answer.Text n) ≡ t ∷ []
+one_taken past n t e = ap option_to_list e
+
+pub moved_in : (old new : DeskState) (before now : InState) (n : EntryNo) (t : List ℕ) → TakesNews old new (answer.Text n) → text_of (past_of new) n ≡ Some t → now.sent ≡ added before.sent (frame t) → now.closed ≡ before.closed → IsInTurn old new before now into.Moved
+moved_in old new before now n t h carried sent closed = record {
+  half = in_half old new before now false (frame t) (HostTake ∷ []) (λ past. text_taken past HostTake (answer.Text n)) [] (taken_stretch old new (answer.Text n) h) sent (whole (sym (append-nil (frame t)) ∙ ap frames (sym (one_taken (past_of new) n t carried)))) (tt, tt);
+  came = ((n, h), closed);
+}
+
+-- the text that was taken, in a journal that went on
+taken_later : (mid new : DeskState) (more : List Seen) (n : EntryNo) (t : List ℕ) → new.history ≡ more ++ mid.history → text_of (past_of mid) n ≡ Some t → text_of (past_of new) n ≡ Some t
+taken_later mid new more n t seen carried =
+    let P : List Entry → Type 0 = λ past. text_of past n ≡ Some t in
+    subst P (sym (ap entries_in seen ∙ map-append (λ (s : Seen). s.entry) more mid.history)) (text_of-more (entries_in more) (past_of mid) n t carried)
+
+-- a text was taken, and a front of its frame was sent
+cut_short : (old mid new : DeskState) (before now : InState) (refused : Bool) (n : EntryNo) (t : List ℕ) (calls : List Call) → TakesNews old mid (answer.Text n) → text_of (past_of mid) n ≡ Some t → AddsFront before.sent now.sent (frame t) → Rose before.faults now.faults
+    → Stretch (TakesReady old.host) mid new calls (λ past. []) [] → ends_by_write (calls ++ HostTake ∷ []) || refused ≡ true → EndsLast (Rose before.faults now.faults) (calls ++ HostTake ∷ []) → IsInHalf old new before now refused
+cut_short old mid new before now refused n t calls h carried (m, le, sent) rose s stops ends =
+    let texts : text_taken (past_of new) HostTake (answer.Text n) ++ [] ≡ [] ++ t ∷ [] = append-nil (text_taken (past_of new) HostTake (answer.Text n)) ∙ one_taken (past_of new) n t (taken_later mid new s.more n t s.seen carried) in
+    let B : Bool → Type 0 = Sends (Rose before.faults now.faults) (text_taken (past_of new) HostTake (answer.Text n) ++ []) (take m (frame t)) in
+    in_half old new before now refused (take m (frame t)) (calls ++ HostTake ∷ []) (λ past. text_taken past HostTake (answer.Text n) ++ []) []
+    (stretch_twice (TakesReady old.host) old mid new (HostTake ∷ []) calls (λ past. text_taken past HostTake (answer.Text n)) (λ past. []) [] [] (taken_stretch old mid (answer.Text n) h) s)
+    sent (subst B (sym stops) (in_part rose [] t m texts refl)) ends
+
+pub failed_in : (old mid new : DeskState) (before now : InState) (n : EntryNo) (t : List ℕ) (a : Answer) → TakesNews old mid (answer.Text n) → text_of (past_of mid) n ≡ Some t → AddsFront before.sent now.sent (frame t) → Rose before.faults now.faults → now.closed ≡ before.closed
+    → MakesOne mid new (HostEnded WriteFailed) a → IsInTurn old new before now into.Ended
+failed_in old mid new before now n t a h carried sent rose closed ended = record {
+  half = cut_short old mid new before now false n t (HostEnded WriteFailed ∷ []) h carried sent rose
+      (stretch_own (TakesReady old.host) mid ended.between new (HostEnded WriteFailed) a ended.others (ap (λ (d : DeskState). d.history) ended.made) tt) refl ((refl, tt), (refl, rose));
+  came = (record { text = n; between = mid; taken = h; failed = rose; left = (a, ended) }, closed);
+}
+
+pub failed_refused_in : (old mid new : DeskState) (before now : InState) (n : EntryNo) (t : List ℕ) → TakesNews old mid (answer.Text n) → text_of (past_of mid) n ≡ Some t → AddsFront before.sent now.sent (frame t) → Rose before.faults now.faults → MakesNone mid new
+    → IsInTurn old new before now into.NoMemory
+failed_refused_in old mid new before now n t h carried sent rose none = record {
+  half = cut_short old mid new before now true n t [] h carried sent rose (stretch_none (TakesReady old.host) mid new new none refl) refl (tt, tt);
+  came = behind_write (record { text = n; between = mid; taken = h; failed = rose; left = none });
+}
+
+-- The half of the output
+
+pub out_half : (old new : DeskState) (reader after : Unfinished) (before now : OutState) (refused : Bool) (bytes : List ℕ) (texts : List (List ℕ)) (rest : List ℕ) (unsaid : List (List ℕ)) (calls : List Call) (taken : List Entry → List (List ℕ)) (said : List (List ℕ))
+    → Stretch (EndsFor (IsCause (said ≡ texts) rest before now) old.host) old new calls taken said → Gives before.stream now.stream bytes → IsSplit LONGEST_SAID (reader.bytes ++ bytes) texts rest → texts ≡ said ++ unsaid
+    → (refused ≡ false → unsaid ≡ []) → (refused ≡ false → Keeps reader.bytes rest after.bytes) → IsOutHalf old new reader after before now refused
+out_half old new reader after before now refused bytes texts rest unsaid calls taken said s given split is all_said kept =
+    let E : List (List ℕ) → Type 0 = λ x. EachOwn (EndsFor (IsCause (x ≡ texts) rest before now) old.host) (past_of old) s.more in
+    record {
+      more = s.more;
+      seen = s.seen;
+      bytes = bytes;
+      given = given;
+      texts = texts;
+      rest = rest;
+      split = split;
+      unsaid = unsaid;
+      said = is ∙ ap (λ x. x ++ unsaid) (sym s.said_are);
+      all = all_said;
+      kept = kept;
+      ends = subst E (sym s.said_are) s.each;
+    }
+
+-- bytes that no frame begins are the rest
+pub split_none : (r : List ℕ) → HasNoFrame r → IsSplit LONGEST_SAID r [] r
+split_none r none = split_rest LONGEST_SAID [] [] [] r (split_nothing LONGEST_SAID) none
+
+split_one : (r t : List ℕ) → IsFrame LONGEST_SAID r t → IsSplit LONGEST_SAID r (t ∷ []) []
+split_one r t h = split_frame LONGEST_SAID [] [] [] r t (split_nothing LONGEST_SAID) h
+
+cause_of : (all_said : Type 0) (r : List ℕ) (before now : OutState) (closed : Bool) (reason : Reason) → all_said → IsReadingEnd r before now reason → IsCause all_said r before now closed reason
+cause_of all_said r before now closed Closed a h = absurd h
+cause_of all_said r before now closed StartFailed a h = (a, h)
+cause_of all_said r before now closed ReadFailed a h = (a, h)
+cause_of all_said r before now closed WriteFailed a h = (a, h)
+cause_of all_said r before now closed (TooLong n) a h = (a, h)
+cause_of all_said r before now closed (BadJson place kind) a h = (a, h)
+cause_of all_said r before now closed (Cut have) a h = (a, h)
+cause_of all_said r before now closed Exited a h = (a, h)
+
+-- a text was read, and the host says it
+pub says_out : (start old new : DeskState) (reader after : Unfinished) (before now : OutState) (t : List ℕ) (result : OutTurn) → MakesNone start old → IsRead reader after before now (Some (Text t)) → Says old new t result → IsOutTurn start new reader after before now result
+says_out start old new reader after before now t out.Moved none read (a, h) =
+    let one = none_then_one start old new (HostSaid t) a none h in
+    let K : List ℕ → Type 0 = Keeps reader.bytes [] in
+    record {
+      half = out_half start new reader after before now false read.bytes (t ∷ []) [] [] (HostSaid t ∷ []) (λ past. text_taken past (HostSaid t) a) (t ∷ [])
+          (stretch_own (EndsFor (IsCause (t ∷ [] ≡ t ∷ []) [] before now) start.host) start one.between new (HostSaid t) a one.others (ap (λ (d : DeskState). d.history) one.made) tt)
+          read.given (split_one (reader.bytes ++ read.bytes) t read.came.0) refl (λ e. refl) (λ e. subst K (sym read.came.1) (all (short_under_way [] LONGEST_SAID (omega arith)).no_trouble));
+      came = (t, a, one);
+    }
+says_out start old new reader after before now t out.Waits none read h = absurd h
+says_out start old new reader after before now t out.Ended none read h = absurd h
+says_out start old new reader after before now t out.NoMemory none read h =
+    let both = none_twice start old new none h in
+    record {
+      half = out_half start new reader after before now true read.bytes (t ∷ []) [] (t ∷ []) [] (λ past. []) [] (stretch_none (EndsFor (IsCause ([] ≡ t ∷ []) [] before now) start.host) start new new both refl)
+          read.given (split_one (reader.bytes ++ read.bytes) t read.came.0) refl (λ e. absurd cc) (λ e. absurd cc);
+      came = both;
+    }
+
+-- nothing was to be said
+abbrev pub nothing : List (List ℕ)
+nothing = []
+
+abbrev pub NoneToSay : Type 0
+NoneToSay = nothing ≡ nothing
+
+-- a cause, whatever others enter
+abbrev pub CauseStays : DeskState → List ℕ → OutState → OutState → Reason → Type 0
+CauseStays old r before now reason = (more : List Entry) → IsCause NoneToSay r before now (said_closed (more ++ past_of old) old.host) reason
+
+cause_at : (old new : DeskState) (r : List ℕ) (before now : OutState) (reason : Reason) (none : MakesNone old new) → CauseStays old r before now reason → IsCause NoneToSay r before now (said_closed (past_of new) new.host) reason
+cause_at old new r before now reason none cause =
+    let P : List Entry → Type 0 = λ past. IsCause NoneToSay r before now (said_closed past new.host) reason in
+    let H : HostNo → Type 0 = λ h. IsCause NoneToSay r before now (said_closed (entries_in none.others ++ past_of old) h) reason in
+    subst P (sym (past-others old new none)) (subst H (sym none.same_host) (cause (entries_in none.others)))
+
+-- no frame was read, there is a cause to end, and the host ends or waits
+ends_out : (start old new : DeskState) (reader after : Unfinished) (before now : OutState) (bytes : List ℕ) (reason : Reason) (result : OutTurn) → MakesNone start old → Gives before.stream now.stream bytes → HasNoFrame (reader.bytes ++ bytes) → Keeps reader.bytes (reader.bytes ++ bytes) after.bytes
+    → CauseStays old (reader.bytes ++ bytes) before now reason → EndsOrWaits old new reason result → IsOutTurn start new reader after before now result
+unfolding out_half
+ends_out start old new reader after before now bytes reason out.Moved none given no_frame kept cause h = absurd h
+ends_out start old new reader after before now bytes reason out.Waits none given no_frame kept cause h =
+    let finds = none_then_text start old new none h in
+    let r : List ℕ = reader.bytes ++ bytes in
+    let s = stretch_none (EndsFor (IsCause NoneToSay r before now) start.host) start new new finds.others refl in
+    let C : List (List ℕ) → Type 0 = λ x. IsCause (x ≡ []) r before now (said_closed (past_of new) new.host) reason in
+    record {
+      half = out_half start new reader after before now false bytes [] r [] [] (λ past. []) [] s given (split_none r no_frame) refl (λ e. refl) (λ e. kept);
+      came = (finds, (reason, subst C (sym s.said_are) (cause_at old new r before now reason h.others cause)));
+    }
+ends_out start old new reader after before now bytes reason out.Ended none given no_frame kept cause (a, h) =
+    let ends = none_then_ends start old new reason a none h in
+    let r : List ℕ = reader.bytes ++ bytes in
+    let same : h.between.host ≡ start.host = h.others.same_host ∙ none.same_host in
+    let N : HostNo → Type 0 = λ g. (next_text (past_of h.between) g ≡ None) × IsCause NoneToSay r before now (said_closed (past_of h.between) g) reason in
+    record {
+      half = out_half start new reader after before now false bytes [] r [] (HostEnded reason ∷ []) (λ past. text_taken past (HostEnded reason) a) []
+          (stretch_own (EndsFor (IsCause NoneToSay r before now) start.host) start h.between new (HostEnded reason) a (none_twice start old h.between none h.others) (ap (λ (d : DeskState). d.history) h.made) (subst N same (h.none_left, cause_at old h.between r before now reason h.others cause)))
+          given (split_none r no_frame) refl (λ e. refl) (λ e. kept);
+      came = (reason, a, ends);
+    }
+ends_out start old new reader after before now bytes reason out.NoMemory none given no_frame kept cause h =
+    let both = none_twice start old new none h in
+    let r : List ℕ = reader.bytes ++ bytes in
+    record {
+      half = out_half start new reader after before now true bytes [] r [] [] (λ past. []) [] (stretch_none (EndsFor (IsCause NoneToSay r before now) start.host) start new new both refl) given (split_none r no_frame) refl (λ e. refl) (λ e. absurd cc);
+      came = both;
+    }
+
+-- reading came to an end
+pub ends_read : (start old new : DeskState) (reader after : Unfinished) (before now : OutState) (reason : Reason) (result : OutTurn) → MakesNone start old → IsRead reader after before now (Some (HasEnd reason)) → EndsOrWaits old new reason result → IsOutTurn start new reader after before now result
+ends_read start old new reader after before now reason result none read h =
+    let r : List ℕ = reader.bytes ++ read.bytes in
+    ends_out start old new reader after before now read.bytes reason result none read.given read.came.2 read.came.1 (λ more. cause_of NoneToSay r before now (said_closed (more ++ past_of old) old.host) reason refl read.came.0) h
+
+-- the channel was closed
+pub ends_closed : (start old new : DeskState) (reader : Unfinished) (output : OutState) (result : OutTurn) → MakesNone start old → said_closed (past_of old) old.host ≡ true → HasNoFrame reader.bytes → Keeps reader.bytes reader.bytes reader.bytes → EndsOrWaits old new Closed result
+    → IsOutTurn start new reader reader output output result
+ends_closed start old new reader output result none closed no_frame kept h =
+    let F : List ℕ → Type 0 = HasNoFrame in
+    let K : List ℕ → Type 0 = λ r. Keeps reader.bytes r reader.bytes in
+    ends_out start old new reader reader output output [] Closed result none (gives_nothing output.stream) (subst F (sym (append-nil reader.bytes)) no_frame) (subst K (sym (append-nil reader.bytes)) kept) (λ more. said_closed-more more (past_of old) old.host closed) h
+
+pub is_closed_turn : (start old new : DeskState) (reader : Unfinished) (output : OutState) (result : OutTurn) → MakesNone start old → EndsOrWaits old new Closed result → IsClosedTurn start new reader reader output output result
+is_closed_turn start old new reader output out.Moved none h = absurd h
+is_closed_turn start old new reader output out.Waits none h = record { same_reader = refl; nothing_read = refl; came = none_then_text start old new none h }
+is_closed_turn start old new reader output out.Ended none (a, h) = record { same_reader = refl; nothing_read = refl; came = (a, none_then_ends start old new Closed a none h) }
+is_closed_turn start old new reader output out.NoMemory none h = record { same_reader = refl; nothing_read = refl; came = none_twice start old new none h }
+
+-- a host whose channel was closed is found so
+pub found_closed : (start old : DeskState) → MakesNone start old → said_closed (past_of start) start.host ≡ true → said_closed (past_of old) old.host ≡ true
+found_closed start old none is =
+    let P : List Entry → Type 0 = λ past. said_closed past old.host ≡ true in
+    let H : HostNo → Type 0 = λ h. said_closed (entries_in none.others ++ past_of start) h ≡ true in
+    subst P (sym (past-others start old none)) (subst H (sym none.same_host) (said_closed-more (entries_in none.others) (past_of start) start.host is))
+
+-- memory was refused while a frame was read
+pub refused_read : (start old : DeskState) (reader after : Unfinished) (before now : OutState) → MakesNone start old → IsRead reader after before now (Some NoMemory) → IsOutTurn start old reader after before now out.NoMemory
+refused_read start old reader after before now none read =
+    let r : List ℕ = reader.bytes ++ read.bytes in
+    record {
+      half = out_half start old reader after before now true read.bytes [] r [] [] (λ past. []) [] (stretch_none (EndsFor (IsCause NoneToSay r before now) start.host) start old old none refl) read.given (split_none r read.came) refl (λ e. refl) (λ e. absurd cc);
+      came = none;
+    }

@@ -1,0 +1,9 @@
+pub mod Pipes
+pub mod Records
+pub mod History
+pub mod Steps
+pub mod Reading
+pub mod Halves
+pub mod Turns
+pub mod Memory
+pub mod TestDesks

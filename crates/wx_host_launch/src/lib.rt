@@ -1,0 +1,26 @@
+//! A native host from outside: its program and the two ends of its pipe, and one turn of the pump of each.
+#![tactic(auto)]
+
+mod children;
+mod desk;
+mod memory;
+mod pipes;
+mod reading;
+mod records;
+mod sending;
+mod starter;
+mod test_desk;
+#[cfg(test)]
+mod tests;
+mod turns;
+
+pub use children::{MemoryChild, MemoryIn, MemoryOut};
+pub use desk::HostDesk;
+pub use memory::MemoryStarter;
+pub use pipes::{HostIn, HostOut};
+pub use records::{MemoryProgram, MemoryRecord};
+pub use starter::{StartFault, Starter};
+pub use test_desk::{Stage, TestDesk};
+pub use turns::{InTurn, OutTurn, in_turn, out_turn};
+pub use wx_host_manifest::Arguments;
+pub use wx_outside::Failed;
