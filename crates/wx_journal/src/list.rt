@@ -10,7 +10,7 @@ ghost use Rattle.wx_journal_text.specs.Text.{journal_text};
 use std::alloc::Global;
 use std::marker::Model;
 use wx_id::{EntryNo, NoMemory};
-use wx_journal_read::{JournalReadFault, read};
+use wx_journal_read::{JournalReadFault, fits, read};
 use wx_journal_text::print;
 use wx_machine::{Call, Entry, JsonText};
 
@@ -139,8 +139,10 @@ impl Journal {
 
     /// The text of the journal: a head line, and a line for each entry.
     pub fn print(&self, alloc: Global) -> Result<Vec<u8>, NoMemory>
-        ensures { IfOk result (λ text. text.items ≡ journal_text self.now.entries) }
+        ensures text { IfOk result (λ text. text.items ≡ journal_text self.now.entries) }
+        ensures fits { JournalFits self.now.entries }
     {
+        fits::journal(&self.entries);
         match print(alloc, &self.entries) {
             Ok(text) => Ok(text),
             Err(_) => Err(NoMemory),
