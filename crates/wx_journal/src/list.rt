@@ -2,9 +2,9 @@ ghost use Rattle.std.specs.Prelude.{◌≡◌, List, Ok, ◌+◌, ◌<◌, ◌�
 ghost use Rattle.std.specs.Option.{option_and_then};
 ghost use Rattle.wx_machine.specs.Carried.{text_in};
 ghost use Rattle.wx_machine.specs.declared.entries.Entry.{Entry};
+ghost use Rattle.wx_journal_read.specs.Faults.{IsFault};
 ghost use Rattle.wx_journal_read.specs.Fits.{JournalFits};
 ghost use Rattle.wx_journal_read.specs.Gives.{GivesWhole, IfBad};
-ghost use Rattle.wx_journal_read.specs.Whole.{IsFault};
 ghost use Rattle.wx_journal_text.specs.Text.{journal_text};
 ghost use Rattle.wx_journal.specs.Journal.{IsTextOfNoOther};
 

@@ -77,16 +77,6 @@ mapped_row {A} {P} {text} {Fits} {tp} {Fp} {rp} word f law fits same = record {
       subst (λ (y : A × List ℕ). Fits y.0 × (word ++ bytes ≡ text y.0 ++ y.1)) (same_Some _ _ a.2) (fits a.0.0 l.0, ap (λ (r : List ℕ). word ++ r) l.1 ∙ sym (append_assoc word (tp a.0.0) a.0.1) ∙ ap (λ (r : List ℕ). r ++ a.0.1) (same a.0.0));
 }
 
--- a row that reads with a law of its own
-pub read_row : {A : Type 0} {text : A → List ℕ} {Fits : A → Type 0} {ta : A → List ℕ} {Fa : A → Type 0} {ra : Reader A} (word : List ℕ)
-    → Reads ta Fa ra → ((x : A) → Fa x → Fits x × (word ++ ta x ≡ text x)) → RowTakes text Fits word ra
-read_row {A} {text} {Fits} {ta} {Fa} {ra} word law same = record {
-  row = λ bytes y e.
-      let l = law.takes bytes y e in
-      let s = same y.0 l.0 in
-      (s.0, ap (λ (r : List ℕ). word ++ r) l.1 ∙ sym (append_assoc word (ta y.0) y.1) ∙ ap (λ (r : List ℕ). r ++ y.1) s.1);
-}
-
 -- what is spelled with this word is read by this row
 pub row_again : {A P : Type 0} {tp : P → List ℕ} {Fp : P → Type 0} {rp : Reader P} (text : A → List ℕ) (read : Reader A) (word : List ℕ) (f : P → A) → Reads tp Fp rp
     → ((bytes : List ℕ) → read (word ++ bytes) ≡ mapped f rp bytes) → ((p : P) → word ++ tp p ≡ text (f p))
@@ -96,16 +86,6 @@ row_again {A} {P} {tp} text read word f law picks same p rest fits short ends =
     let here : length (word ++ (tp p ++ rest)) < 2 ^ 64 = rw regrouped at short in
     let later : length (tp p ++ rest) < 2 ^ 64 = omega (arith, length-append word (tp p ++ rest)) in
     ap read regrouped ∙ picks (tp p ++ rest) ∙ rw (law.again p rest fits later ends) refl
-
--- the same of a row that reads with a law of its own
-pub own_again : {A : Type 0} {ta : A → List ℕ} {Fa : A → Type 0} {ra : Reader A} (text : A → List ℕ) (read : Reader A) (word : List ℕ) → Reads ta Fa ra
-    → ((bytes : List ℕ) → read (word ++ bytes) ≡ ra bytes) → (x : A) → word ++ ta x ≡ text x
-    → (rest : List ℕ) → Fa x → length (text x ++ rest) < 2 ^ 64 → IsTrue (ends_number rest) → read (text x ++ rest) ≡ Some (x, rest)
-own_again {A} {ta} text read word law picks x same rest fits short ends =
-    let regrouped : text x ++ rest ≡ word ++ (ta x ++ rest) = ap (λ (r : List ℕ). r ++ rest) (sym same) ∙ append_assoc word (ta x) rest in
-    let here : length (word ++ (ta x ++ rest)) < 2 ^ 64 = rw regrouped at short in
-    let later : length (ta x ++ rest) < 2 ^ 64 = omega (arith, length-append word (ta x ++ rest)) in
-    ap read regrouped ∙ picks (ta x ++ rest) ∙ law.again x rest fits later ends
 
 abbrev pub Taking : {A : Type 0} → (A → List ℕ) → (A → Type 0) → Reader A → Type 0
 Taking {A} text Fits read = (bytes : List ℕ) (y : A × List ℕ) → read bytes ≡ Some y → Fits y.0 × (bytes ≡ text y.0 ++ y.1)

@@ -12,7 +12,8 @@ use Rattle.wx_journal_read.specs.declared.fault.JournalKind.TheVariants.{Head, L
 use Rattle.wx_journal_read.specs.Reading.{behind}
 use Rattle.wx_journal_read.specs.Grammar.{entry_at, who_at, entries_at}
 use Rattle.wx_journal_read.specs.Fits.{EntryFits, JournalFits}
-use Rattle.wx_journal_read.specs.Whole.{head, ended, headed, journal_at, IsLineFault, IsFault, IsFaultOf}
+use Rattle.wx_journal_read.specs.Faults.{head, IsLineFault, IsFault, IsFaultOf}
+use Rattle.wx_journal_read.specs.Whole.{ended, headed, journal_at}
 use Rattle.wx_journal_read.specs.Gives.{GivesWhole, IfBad}
 use Rattle.wx_journal_read.specs.declared.fault.JournalKind.{JournalKind}
 use Rattle.wx_journal_read.specs.declared.fault.JournalReadFault.{JournalReadFault}

@@ -10,3 +10,4 @@ pub mod Numbers
 pub mod Sorts
 pub mod Runs
 pub mod Journals
+pub mod Examples

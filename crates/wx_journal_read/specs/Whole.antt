@@ -1,18 +1,12 @@
--- The text of a journal, read whole.
-use Rattle.std.specs.Prelude.{◌≡◌, ℕ, ◌<◌, ◌≤◌, ◌-◌, ◌==◌, List, ◌++◌, length, Option, Some, None, Result, Ok, Err, codes, if◌then◌else◌}
+-- What is read as a journal.
+use Rattle.std.specs.Prelude.{ℕ, ◌-◌, ◌==◌, List, length, Option, Some, None, Result, Ok, Err, if◌then◌else◌}
 use Rattle.wx_machine.specs.declared.entries.Entry.{Entry}
-use Rattle.wx_journal_text.specs.Text.{journal_text}
 use Rattle.wx_journal_read.specs.declared.fault.JournalFault.{JournalFault}
-use Rattle.wx_journal_read.specs.declared.fault.JournalKind.{JournalKind}
 use Rattle.wx_journal_read.specs.declared.fault.JournalKind.TheVariants.{Head, Line}
 use Rattle.wx_journal_read.specs.Reading.{behind}
-use Rattle.wx_journal_read.specs.Fits.{JournalFits}
+use Rattle.wx_journal_read.specs.Faults.{head}
 use Rattle.wx_journal_read.specs.Grammar.{entries_at}
 
-abbrev pub head : List ℕ
-head = codes "wx journal 1 chrome\n"
-
--- what is read as a journal, or the fault
 abbrev pub ended : ℕ → List Entry × List ℕ → Result (List Entry) JournalFault
 ended all run = if length run.1 == 0 then Ok run.0 else Err (record { place = all - length run.1; kind = Line })
 
@@ -22,25 +16,3 @@ headed all (Some rest) = ended all (entries_at (length rest) rest)
 
 unfoldable pub journal_at : List ℕ → Result (List Entry) JournalFault
 journal_at bytes = headed (length bytes) (behind head bytes)
-
--- the journal is the longest run of whole entries behind the head line, and something stands behind it
-pub record IsLongest (bytes : List ℕ) (journal : List Entry) (rest : List ℕ) : Type 0 where
-  pub fits : JournalFits journal
-  pub whole : bytes ≡ journal_text journal ++ rest
-  pub behind_it : 0 < length rest
-  pub longest : (other : List Entry) (more : List ℕ) → JournalFits other → bytes ≡ journal_text other ++ more → length (journal_text other) ≤ length (journal_text journal)
-
-pub record IsLineFault (bytes : List ℕ) (place : ℕ) : Type 0 where
-  pub journal : List Entry
-  pub rest : List ℕ
-  pub is_longest : IsLongest bytes journal rest
-  pub place_is : place ≡ length (journal_text journal)
-
--- `Head` at 0: the text does not begin with the head line. `Line`: what follows the head line is no run of entry lines, and
--- the place is where the longest run ends
-abbrev pub IsFaultOf : List ℕ → ℕ → JournalKind → Type 0
-IsFaultOf bytes place Head = (place ≡ 0) × ((rest : List ℕ) → bytes ≡ head ++ rest → ⊥)
-IsFaultOf bytes place Line = IsLineFault bytes place
-
-abbrev pub IsFault : List ℕ → JournalFault → Type 0
-IsFault bytes f = IsFaultOf bytes f.place f.kind

@@ -41,7 +41,7 @@ pub fn reason(bytes: &[u8]) -> Result<(Reason, &[u8]), Fault>
     frame_reason(bytes)
 }
 
-/// By a frame.
+/// A reason that a frame gives.
 #[tactic(auto, unfolding(crate::specs::Grammar::frame_reason_at))]
 fn frame_reason(bytes: &[u8]) -> Result<(Reason, &[u8]), Fault>
     ensures { Gives (λ x. (x.0, x.1.now)) result (grammar.frame_reason_at bytes.now) }
@@ -63,7 +63,7 @@ fn frame_reason(bytes: &[u8]) -> Result<(Reason, &[u8]), Fault>
     end_reason(bytes)
 }
 
-/// For want of a reader, or at the end of what it wrote or was told.
+/// Any other reason.
 #[tactic(auto, unfolding(crate::specs::Grammar::end_reason_at))]
 fn end_reason(bytes: &[u8]) -> Result<(Reason, &[u8]), Fault>
     ensures { Gives (λ x. (x.0, x.1.now)) result (grammar.end_reason_at bytes.now) }

@@ -5,7 +5,8 @@ ghost use Rattle.wx_journal_text.specs.Text.{journal_text};
 ghost use Rattle.wx_journal_read.specs.Fits.{JournalFits};
 ghost use Rattle.wx_journal_read.specs.Gives.{Gives, GivesWhole, IfBad};
 ghost use Rattle.wx_journal_read.specs.Grammar.{entry_at, entries_at};
-ghost use Rattle.wx_journal_read.specs.Whole.{journal_at, IsFault};
+ghost use Rattle.wx_journal_read.specs.Faults.{IsFault};
+ghost use Rattle.wx_journal_read.specs.Whole.{journal_at};
 
 use crate::answer::answer;
 use crate::call::call;
