@@ -1,1 +1,4 @@
 pub mod Refusals
+pub mod Numbers
+pub mod Endings
+pub mod Settlements

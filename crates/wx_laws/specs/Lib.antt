@@ -1,2 +1,4 @@
 pub mod Legal
+pub mod Prefix
 pub mod RefusalLaw
+pub mod SettlementLaw
