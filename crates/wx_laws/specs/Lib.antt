@@ -2,3 +2,4 @@ pub mod Legal
 pub mod Prefix
 pub mod RefusalLaw
 pub mod SettlementLaw
+pub mod ClosingLaw

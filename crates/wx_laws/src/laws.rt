@@ -1,6 +1,7 @@
 //! The laws of messaging, each the contract of a function that does nothing.
 ghost use Rattle.wx_laws.specs.RefusalLaw.{RefusesConnects, RefusesNativeConnects};
 ghost use Rattle.wx_laws.specs.SettlementLaw.{AnswersOnce, TellsOneOutcome, TellsTheAsker};
+ghost use Rattle.wx_laws.specs.ClosingLaw.{TellsTheOtherSide, TellsNoMore, StaysPending, StaysBehindClosing};
 
 /// A connect is refused exactly where its gate refuses it, or nobody hears it.
 pub fn refuses_connects()
@@ -25,4 +26,24 @@ pub fn tells_one_outcome()
 /// Which outcome of a request an entry tells, and that it tells the asker alone.
 pub fn tells_the_asker()
     ensures { TellsTheAsker }
+{}
+
+/// The entry that closes a channel tells each live end on the other side of it, once, and nobody else.
+pub fn tells_the_other_side()
+    ensures { TellsTheOtherSide }
+{}
+
+/// Nothing is told of a channel that is closed.
+pub fn tells_no_more()
+    ensures { TellsNoMore }
+{}
+
+/// What was delivered on a channel and not taken is pending for each context that did not itself disconnect it.
+pub fn stays_pending()
+    ensures { StaysPending }
+{}
+
+/// Behind the closing of a channel only a take removes what is pending of it.
+pub fn stays_behind_closing()
+    ensures { StaysBehindClosing }
 {}
