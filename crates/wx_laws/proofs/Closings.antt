@@ -36,7 +36,7 @@ use Rattle.wx_machine.specs.declared.sorts.Sort.TheVariants.{Connection}
 use Rattle.wx_laws.specs.ClosingLaw.{are_across, is_disconnected, TellsTheOtherSide, TellsNoMore, disconnects, has_disconnected, of_channel, is_not_in, StaysPending, StaysBehindClosing}
 use Rattle.wx_laws.specs.Legal.{IsLegalPast}
 use Rattle.wx_laws.proofs.Endings.{no_messages, no_replies, no_unanswered, ends_of}
-use Rattle.wx_laws.proofs.Numbers.{on_false, none_on, of_six}
+use Rattle.wx_laws.proofs.Numbers.{eqb_above, on_false, none_on, of_six}
 use Rattle.wx_laws.proofs.Places.{channel_later, channel_within, closed_later, closed_within, lives_on}
 use Rattle.wx_laws.proofs.Waiting.{leaves_waiting, waits_after}
 
@@ -190,9 +190,6 @@ message_closed world past c k (ByHost h) (Post j text) Posted l closed = absurd 
 message_closed world past c k (ByHost h) (HostSaid text) Passed l closed = said_when_closed past c k (ByHost h) (work_of past h) l closed
 message_closed world past c k (ByContext d) (HostSaid text) Passed l closed = refl
 message_closed world past c k _ _ _ l closed = refl
-
-eqb_above : (n k : ℕ) → k < n → (n == k) ≡ false
-eqb_above n k h = grind (arith, nat_tests)
 
 closed_first : (b d f : Bool) → b ≡ true → ((not b && d) && f) ≡ false
 closed_first true d f h = refl

@@ -5,3 +5,6 @@ pub mod Settlements
 pub mod Places
 pub mod Waiting
 pub mod Closings
+pub mod Taking
+pub mod Messages
+pub mod HostTexts

@@ -8,6 +8,15 @@ use Rattle.std.proofs.lemmas.List.Elements.{filter-append}
 use Rattle.wx_id.specs.declared.events.EventKind.{EventKind}
 use Rattle.wx_machine.specs.Events.{on}
 
+pub eqb_refl : (n : ℕ) → (n == n) ≡ true
+eqb_refl n = grind (arith, nat_tests)
+
+pub eqb_below : (m n : ℕ) → m < n → (m == n) ≡ false
+eqb_below m n h = grind (arith, nat_tests)
+
+pub eqb_above : (m n : ℕ) → n < m → (m == n) ≡ false
+eqb_above m n h = grind (arith, nat_tests)
+
 pub filter_on : (p : EventKind → Bool) (b : Bool) (kind : EventKind) → filter p (on b kind) ≡ on (b && p kind) kind
 filter_on p true kind = refl
 filter_on p false kind = refl
@@ -36,10 +45,7 @@ module _ (p : EventKind → Bool) (f : ℕ → EventKind) (r : ℕ) (takes : (j 
   outside test a zero h = refl
   outside test a (suc n) h =
       filter-append p (on (test a) (f a)) (flat_map (λ j. on (test j) (f j)) (range_with_len (a + 1) n))
-      ∙ rw (at_number test a, apart a h, outside test (a + 1) n (omega arith)) refl
-    where
-      apart : (m : ℕ) → r < m → (m == r) ≡ false
-      apart m h = grind (arith, nat_tests)
+      ∙ rw (at_number test a, eqb_above a r h, outside test (a + 1) n (omega arith)) refl
 
   from : (test : ℕ → Bool) (a n : ℕ) → a ≤ r → (test r ≡ true → r < a + n) → filter p (flat_map (λ j. on (test j) (f j)) (range_with_len a n)) ≡ on (test r) (f r)
   from test a zero low h = sym (on_false (test r) (f r) (never (test r) refl))

@@ -33,10 +33,7 @@ use Rattle.wx_machine.specs.declared.sorts.Sort.TheVariants.{Message as AMessage
 use Rattle.wx_laws.specs.Prefix.{IsPrefix}
 use Rattle.wx_laws.specs.SettlementLaw.{answers_by, answers, answers_to, AnswersOnce, is_outcome, outcomes, TellsOneOutcome, closes_by, closes_request, TellsTheAsker}
 use Rattle.wx_laws.proofs.Endings.{no_messages, no_disconnected, is_silent, closed_of}
-use Rattle.wx_laws.proofs.Numbers.{at_number, none_on, of_last_two}
-
-pub eqb_refl : (n : ℕ) → (n == n) ≡ true
-eqb_refl n = grind (arith, nat_tests)
+use Rattle.wx_laws.proofs.Numbers.{eqb_refl, at_number, none_on, of_last_two}
 
 -- what a first reply tells
 first_tells : (live asked settled declined long : Bool)

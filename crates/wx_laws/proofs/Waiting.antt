@@ -1,6 +1,6 @@
 -- What waits for a context, one entry later.
 use Rattle.std.proofs.Common.{◌≡◌, ℕ, suc, ◌<◌, List, [], ◌∷◌, ◌++◌, length, map, refl, ap, ◌∙◌, Bool, true, false, cond, not, arith, ◌≤◌}
-use Rattle.std.specs.Prelude.{Option, Some, None, ◌||◌, ◌&&◌, filter, ◌==◌, nat_lt}
+use Rattle.std.specs.Prelude.{Option, Some, None, ◌||◌, ◌&&◌, filter, nat_lt}
 use Rattle.std.specs.List.{list_any}
 use Rattle.std.proofs.lemmas.Bool.Decides.{nat_tests}
 use Rattle.std.proofs.lemmas.List.Elements.{filter-append}
@@ -20,6 +20,7 @@ use Rattle.wx_machine.specs.declared.entries.Who.TheVariants.{Context as ByConte
 use Rattle.wx_machine.specs.declared.entries.Call.TheVariants.{Take}
 use Rattle.wx_machine.specs.declared.entries.Answer.TheVariants.{Gone, Event as Told}
 use Rattle.wx_laws.specs.Legal.{IsLegalPast}
+use Rattle.wx_laws.proofs.Numbers.{eqb_below}
 
 -- the entry leaves the event for context c: c does not take it, nor disconnect its channel
 abbrev pub leaves_waiting : Entry → ContextNo → Event → Bool
@@ -92,10 +93,7 @@ below_taken_last world past e c legal =
     (told_below world past e.who e.call e.answer (is_by e.who c) legal.1.answered)
 
 pub not_same : (x : Event) (n : ℕ) (kind : EventKind) → x.entry.0 < n → same_event x (marked n kind) ≡ false
-not_same x n kind h = rw (apart x.entry.0 n h) refl
-  where
-    apart : (a b : ℕ) → a < b → (a == b) ≡ false
-    apart a b h = grind (arith, nat_tests)
+not_same x n kind h = rw (eqb_below x.entry.0 n h) refl
 
 pub none_same : (n : ℕ) (kind : EventKind) (xs : List Event) → IsBelow n xs → list_any (λ t. same_event t (marked n kind)) xs ≡ false
 none_same n kind [] p = refl

@@ -3,3 +3,4 @@ pub mod Prefix
 pub mod RefusalLaw
 pub mod SettlementLaw
 pub mod ClosingLaw
+pub mod PrefixLaw

@@ -2,6 +2,7 @@
 ghost use Rattle.wx_laws.specs.RefusalLaw.{RefusesConnects, RefusesNativeConnects};
 ghost use Rattle.wx_laws.specs.SettlementLaw.{AnswersOnce, TellsOneOutcome, TellsTheAsker};
 ghost use Rattle.wx_laws.specs.ClosingLaw.{TellsTheOtherSide, TellsNoMore, StaysPending, StaysBehindClosing};
+ghost use Rattle.wx_laws.specs.PrefixLaw.{TakesInOrder, HostsTakeInOrder};
 
 /// A connect is refused exactly where its gate refuses it, or nobody hears it.
 pub fn refuses_connects()
@@ -46,4 +47,14 @@ pub fn stays_pending()
 /// Behind the closing of a channel only a take removes what is pending of it.
 pub fn stays_behind_closing()
     ensures { StaysBehindClosing }
+{}
+
+/// The texts that an end took of a channel are the first of those that the other side gave, in their order.
+pub fn takes_in_order()
+    ensures { TakesInOrder }
+{}
+
+/// The texts that a host took are the first of those for it, in their order.
+pub fn hosts_take_in_order()
+    ensures { HostsTakeInOrder }
 {}
