@@ -1,3 +1,4 @@
+pub mod Pasts
 pub mod Refusals
 pub mod Numbers
 pub mod Endings

@@ -1,4 +1,5 @@
 pub mod Legal
+pub mod Earlier
 pub mod Prefix
 pub mod RefusalLaw
 pub mod SettlementLaw

@@ -1,8 +1,15 @@
-//! The laws of messaging, each the contract of a function that does nothing.
+//! The laws of messaging, each the contract of a function that does nothing. They stand on the definitions of the machine
+//! alone, and hold of every legal journal, whatever made it.
+ghost use Rattle.wx_laws.specs.Earlier.{EarlierIsLegal};
 ghost use Rattle.wx_laws.specs.RefusalLaw.{RefusesConnects, RefusesNativeConnects};
 ghost use Rattle.wx_laws.specs.SettlementLaw.{AnswersOnce, TellsOneOutcome, TellsTheAsker};
 ghost use Rattle.wx_laws.specs.ClosingLaw.{TellsTheOtherSide, TellsNoMore, StaysPending, StaysBehindClosing};
 ghost use Rattle.wx_laws.specs.PrefixLaw.{TakesInOrder, HostsTakeInOrder};
+
+/// What stands before an entry of a legal journal is legal, so the laws hold at each of its entries.
+pub fn earlier_is_legal()
+    ensures { EarlierIsLegal }
+{}
 
 /// A connect is refused exactly where its gate refuses it, or nobody hears it.
 pub fn refuses_connects()
