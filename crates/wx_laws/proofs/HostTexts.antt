@@ -35,7 +35,7 @@ use Rattle.wx_machine.specs.declared.entries.Answer.TheVariants.{Gone, Posted, P
 use Rattle.wx_machine.specs.declared.work.Work.TheVariants.{Channel as ForChannel, Request as ForRequest}
 use Rattle.wx_laws.specs.Legal.{IsLegalPast}
 use Rattle.wx_laws.specs.Prefix.{IsPrefix}
-use Rattle.wx_laws.specs.PrefixLaw.{posts_on, posts, asked_at, for_work, HostsTakeInOrder}
+use Rattle.wx_laws.specs.PrefixLaw.{posts_on, posts, asked_at, for_work, HostsTakeInOrder, HostsTakeTextsInOrder}
 use Rattle.wx_laws.proofs.Messages.{entry_no, prefix_map, Under, under_more, under_new, under-append, get_last}
 use Rattle.wx_laws.proofs.Numbers.{eqb_refl, eqb_below, eqb_above}
 use Rattle.wx_laws.proofs.Places.{get_options, channel_later}
@@ -276,5 +276,8 @@ texts_of past (Some (ForRequest r)) ns h = rw h.1 h.2
 
 pub hosts_take_in_order_lem : HostsTakeInOrder
 hosts_take_in_order_lem world past h legal =
-    prefix_map (text_of past) (texts_taken past h) (for_work past (work_of past h))
-    (subst (IsPrefix (texts_taken past h)) (texts_of past (work_of past h) (texts_for past h) (texts_are world past h legal)) (host_first world past h legal))
+    subst (IsPrefix (texts_taken past h)) (texts_of past (work_of past h) (texts_for past h) (texts_are world past h legal)) (host_first world past h legal)
+
+pub hosts_take_texts_in_order_lem : HostsTakeTextsInOrder
+hosts_take_texts_in_order_lem world past h legal =
+    prefix_map (text_of past) (texts_taken past h) (for_work past (work_of past h)) (hosts_take_in_order_lem world past h legal)

@@ -38,7 +38,7 @@ use Rattle.wx_machine.specs.declared.sorts.Sort.TheVariants.{Connection}
 use Rattle.wx_laws.specs.ClosingLaw.{are_across, disconnects}
 use Rattle.wx_laws.specs.Legal.{IsLegalPast}
 use Rattle.wx_laws.specs.Prefix.{IsPrefix}
-use Rattle.wx_laws.specs.PrefixLaw.{texts, is_message, messages, is_opening, gives, given_texts, TakesInOrder}
+use Rattle.wx_laws.specs.PrefixLaw.{is_message, messages, is_opening, gives, given, TakesInOrder, texts, given_texts, TakesTextsInOrder}
 use Rattle.wx_laws.proofs.Closings.{same_is, tells_no_more_lem, drops_not, filter_under, of_marked, done_open}
 use Rattle.wx_laws.proofs.Endings.{no_replies, no_disconnected, no_unanswered}
 use Rattle.wx_laws.proofs.Numbers.{eqb_refl, at_number, none_on, of_six}
@@ -49,11 +49,6 @@ use Rattle.wx_laws.proofs.Waiting.{leaves_waiting, told_first, waits_after}
 -- the number of an entry
 abbrev pub entry_no : ℕ → EntryNo
 entry_no n = record { 0 = n }
-
--- the entries that give a text on channel k to who stands at this end
-abbrev pub given : List Entry → ℕ → End → List EntryNo
-given [] k end = []
-given (e ∷ past) k end = given past k end ++ cond (gives past k end e.who e.call e.answer) (entry_no (length past) ∷ []) []
 
 abbrev pub of_messages : ℕ → List Event → List Event
 of_messages k events = filter (λ event. is_message k event.kind) events
@@ -554,8 +549,12 @@ texts_given (e ∷ past) k end =
 pub takes_in_order_lem : TakesInOrder
 takes_in_order_lem world past c k legal =
     let end = end_in (channel past k) c in
-    subst (IsPrefix (texts past (messages k (taken past c)))) (texts_given past k end)
-    (prefix_map (text_of past) (messages k (taken past c)) (given past k end)
-    (prefix_of (messages k (taken past c)) (messages k (queued past c)) (given past k end)
+    prefix_of (messages k (taken past c)) (messages k (queued past c)) (given past k end)
     (prefix_map (λ event. event.entry) (of_messages k (taken past c)) (of_messages k (queued past c)) (taken_first past c k (ordered world past c k legal)))
-    (got_first past c k end (got world past c k end legal (inr refl)))))
+    (got_first past c k end (got world past c k end legal (inr refl)))
+
+pub takes_texts_in_order_lem : TakesTextsInOrder
+takes_texts_in_order_lem world past c k legal =
+    let end = end_in (channel past k) c in
+    subst (IsPrefix (texts past (messages k (taken past c)))) (texts_given past k end)
+    (prefix_map (text_of past) (messages k (taken past c)) (given past k end) (takes_in_order_lem world past c k legal))

@@ -28,10 +28,6 @@ use Rattle.wx_laws.specs.ClosingLaw.{are_across}
 use Rattle.wx_laws.specs.Legal.{IsLegalPast}
 use Rattle.wx_laws.specs.Prefix.{IsPrefix}
 
--- the texts that these entries carry
-abbrev pub texts : List Entry → List EntryNo → List (Option (List ℕ))
-texts past ns = map (text_of past) ns
-
 -- it is a message of channel k
 abbrev pub is_message : ℕ → EventKind → Bool
 is_message k (Message j) = j.0 == k
@@ -51,14 +47,29 @@ gives past k end who (Post j text) Posted = (j.0 == k) && are_across (side_of (c
 gives past k end (ByHost h) (HostSaid text) Passed = is_for_channel k (work_of past h) && is_opening end
 gives past k end _ _ _ = false
 
--- the texts so given, in order
+-- the entries that give one
+abbrev pub given : List Entry → ℕ → End → List EntryNo
+given [] k end = []
+given (e ∷ past) k end = given past k end ++ cond (gives past k end e.who e.call e.answer) (record { 0 = length past } ∷ []) []
+
+-- the messages that a context took on a channel are the first of those that the other side gave: none is skipped, and none is taken twice
+abbrev pub TakesInOrder : Type 0
+TakesInOrder =
+    (world : WorldLists) (past : List Entry) (c : ContextNo) (k : ℕ) → IsLegalPast world past
+    → IsPrefix (messages k (taken past c)) (given past k (end_in (channel past k) c))
+
+-- the texts that these entries carry
+abbrev pub texts : List Entry → List EntryNo → List (Option (List ℕ))
+texts past ns = map (text_of past) ns
+
+-- the texts so given
 abbrev pub given_texts : List Entry → ℕ → End → List (List ℕ)
 given_texts [] k end = []
 given_texts (e ∷ past) k end = given_texts past k end ++ cond (gives past k end e.who e.call e.answer) (option_to_list (text_in e.call)) []
 
--- the texts of the messages that a context took on a channel are the first of those that the other side gave
-abbrev pub TakesInOrder : Type 0
-TakesInOrder =
+-- so are their texts
+abbrev pub TakesTextsInOrder : Type 0
+TakesTextsInOrder =
     (world : WorldLists) (past : List Entry) (c : ContextNo) (k : ℕ) → IsLegalPast world past
     → IsPrefix (texts past (messages k (taken past c))) (map Some (given_texts past k (end_in (channel past k) c)))
 
@@ -83,8 +94,14 @@ for_work past None = []
 for_work past (Some (ForChannel k)) = posts past k.0
 for_work past (Some (ForRequest r)) = option_to_list (slice_get (asked_at past) r.0)
 
--- the texts that a host took are the first of those
+-- the entries whose texts a host took are the first of those
 abbrev pub HostsTakeInOrder : Type 0
 HostsTakeInOrder =
+    (world : WorldLists) (past : List Entry) (h : HostNo) → IsLegalPast world past
+    → IsPrefix (texts_taken past h) (for_work past (work_of past h))
+
+-- so are the texts
+abbrev pub HostsTakeTextsInOrder : Type 0
+HostsTakeTextsInOrder =
     (world : WorldLists) (past : List Entry) (h : HostNo) → IsLegalPast world past
     → IsPrefix (texts past (texts_taken past h)) (texts past (for_work past (work_of past h)))

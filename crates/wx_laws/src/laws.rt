@@ -4,7 +4,7 @@ ghost use Rattle.wx_laws.specs.Earlier.{EarlierIsLegal};
 ghost use Rattle.wx_laws.specs.RefusalLaw.{RefusesConnects, RefusesNativeConnects};
 ghost use Rattle.wx_laws.specs.SettlementLaw.{AnswersOnce, TellsOneOutcome, TellsTheAsker};
 ghost use Rattle.wx_laws.specs.ClosingLaw.{TellsTheOtherSide, TellsNoMore, StaysPending, StaysBehindClosing};
-ghost use Rattle.wx_laws.specs.PrefixLaw.{TakesInOrder, HostsTakeInOrder};
+ghost use Rattle.wx_laws.specs.PrefixLaw.{TakesInOrder, TakesTextsInOrder, HostsTakeInOrder, HostsTakeTextsInOrder};
 
 /// What stands before an entry of a legal journal is legal, so the laws hold at each of its entries.
 pub fn earlier_is_legal()
@@ -56,12 +56,15 @@ pub fn stays_behind_closing()
     ensures { StaysBehindClosing }
 {}
 
-/// The texts that an end took of a channel are the first of those that the other side gave, in their order.
+/// The messages that an end took of a channel are the first of those that the other side gave, in their order, and so
+/// are their texts.
 pub fn takes_in_order()
-    ensures { TakesInOrder }
+    ensures entries { TakesInOrder }
+    ensures texts { TakesTextsInOrder }
 {}
 
 /// The texts that a host took are the first of those for it, in their order.
 pub fn hosts_take_in_order()
-    ensures { HostsTakeInOrder }
+    ensures entries { HostsTakeInOrder }
+    ensures texts { HostsTakeTextsInOrder }
 {}
