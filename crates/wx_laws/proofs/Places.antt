@@ -101,10 +101,6 @@ work_there n (w ∷ ws) (suc h) k p is = work_there n ws h k p.1 is
 pub host_within : (past : List Entry) (h : HostNo) (k : ℕ) → is_for_channel k (work_of past h) ≡ true → k < length (channels past)
 host_within past h k is = work_there (length (channels past)) (hosts past) h.0 k (all_there past) is
 
-first_true : (a b : Bool) → (a && b) ≡ true → a ≡ true
-first_true true b h = refl
-first_true false b h = absurd (cc)
-
 -- what ends a channel ends one that is there
 ends_within : (past : List Entry) (e : Entry) (k : ℕ) (who : Who) (call : Call) → ends_by past e k (channel past k) who call ≡ true → k < length (channels past)
 ends_within past e k (ByContext c) (Disconnect j) is =

@@ -3,6 +3,7 @@ use Rattle.std.proofs.Common.{◌≡◌, ℕ, suc, ◌<◌, List, [], ◌∷◌,
 use Rattle.std.specs.Prelude.{Option, Some, None, ◌||◌, ◌&&◌, filter, nat_lt}
 use Rattle.std.specs.List.{list_any}
 use Rattle.std.proofs.lemmas.Bool.Decides.{nat_tests}
+use Rattle.std.proofs.lemmas.List.Folds.{list_any-append}
 use Rattle.std.proofs.lemmas.List.Elements.{filter-append}
 use Rattle.wx_id.specs.declared.numbers.ContextNo.{ContextNo}
 use Rattle.wx_id.specs.declared.events.Event.{Event}
@@ -119,14 +120,10 @@ all_wait world past e c (k ∷ kinds) legal =
     rw (none_same (length past) k (taken (e ∷ past) c) (below_taken_last world past e c legal), not_dropped (e ∷ past) c (length past) k (omega arith))
     (ap (λ l. marked (length past) k ∷ l) (all_wait world past e c kinds legal))
 
-pub any_append : {X : Type 0} (q : X → Bool) (xs ys : List X) → list_any q (xs ++ ys) ≡ (list_any q xs || list_any q ys)
-any_append q [] ys = refl
-any_append q (x ∷ xs) ys = elim (q x) as (λ b. (b || list_any q (xs ++ ys)) ≡ ((b || list_any q xs) || list_any q ys)) [ true ↦ refl | false ↦ any_append q xs ys ]
-
 -- an event of an entry before waits after one more if it waited and is left
 pub waits_on : (past : List Entry) (e : Entry) (c : ContextNo) (ev : Event) → ev.entry.0 < length past → is_waiting (e ∷ past) c ev ≡ (is_waiting past c ev && leaves_waiting e c ev)
 waits_on past e c ev h =
-    rw (any_append (λ t. same_event t ev) (taken past c) (event_in e.call e.answer (is_by e.who c)), earlier ev.entry.0 (length past) h)
+    rw (list_any-append (λ t. same_event t ev) (taken past c) (event_in e.call e.answer (is_by e.who c)), earlier ev.entry.0 (length past) h)
     (sorted (list_any (λ t. same_event t ev) (taken past c)) (list_any (λ t. same_event t ev) (event_in e.call e.answer (is_by e.who c))) (is_dropped past c ev) (is_by e.who c) (drops_by e.call e.answer ev.kind))
   where
     earlier : (m n : ℕ) → m < n → nat_lt m n ≡ true
