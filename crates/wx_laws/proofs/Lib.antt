@@ -1,0 +1,11 @@
+pub mod Pasts
+pub mod Refusals
+pub mod Numbers
+pub mod Endings
+pub mod Settlements
+pub mod Places
+pub mod Waiting
+pub mod Closings
+pub mod Taking
+pub mod Messages
+pub mod HostTexts
