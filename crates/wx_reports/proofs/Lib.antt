@@ -1,1 +1,2 @@
 mod ReportsLater
+mod Places

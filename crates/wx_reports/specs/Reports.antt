@@ -24,10 +24,14 @@ use Rattle.wx_reports.specs.declared.requests.Settled.TheVariants.{First, Closed
 abbrev pub entry_no : ℕ → EntryNo
 entry_no n = record { 0 = n }
 
--- the entry that opened channel k: the one that opens a channel behind k others
+-- entry e opens channel k: it opens a channel, behind k others
+abbrev pub opens_channel : List Entry → Entry → ℕ → Bool
+opens_channel past e k = (length (channels past) == k) && is_some (opens past e)
+
+-- the entry that opened channel k
 abbrev pub opened_at : List Entry → ℕ → Option EntryNo
 opened_at [] k = None
-opened_at (e ∷ past) k = option_or (opened_at past k) (cond ((length (channels past) == k) && is_some (opens past e)) (Some (entry_no (length past))) None)
+opened_at (e ∷ past) k = option_or (opened_at past k) (cond (opens_channel past e k) (Some (entry_no (length past))) None)
 
 -- a message is posted on channel k, or said by its host and passed on
 abbrev pub is_posting : List Entry → ℕ → Who → Call → Answer → Bool
@@ -64,10 +68,14 @@ port_report_of past k (Some opened) = Some (record { opened = opened; closed = o
 abbrev pub port_report : List Entry → ℕ → Option PortReport
 port_report past k = port_report_of past k (opened_at past k)
 
--- the entry that made request r: the one that makes a request behind r others
+-- entry e makes request r: it makes a request, behind r others
+abbrev pub makes_request : List Entry → Entry → ℕ → Bool
+makes_request past e r = (length (requests past) == r) && is_some (asks past e)
+
+-- the entry that made request r
 abbrev pub asked_at : List Entry → ℕ → Option EntryNo
 asked_at [] r = None
-asked_at (e ∷ past) r = option_or (asked_at past r) (cond ((length (requests past) == r) && is_some (asks past e)) (Some (entry_no (length past))) None)
+asked_at (e ∷ past) r = option_or (asked_at past r) (cond (makes_request past e r) (Some (entry_no (length past))) None)
 
 abbrev pub way_of_leave : Bool → Settled
 way_of_leave true = Left

@@ -1,7 +1,8 @@
 ghost use Rattle.std.specs.Prelude.{◌≡◌, ℕ, Option, Some, None, cond, is_some, reverse};
-ghost use Rattle.std.specs.Option.{option_or, option_map};
+ghost use Rattle.std.specs.Option.{option_or, option_map, IfSome};
 ghost use Rattle.wx_machine.specs.Channels.{channel};
 ghost use Rattle.wx_machine.specs.Closing.{closed_at};
+ghost use Rattle.wx_reports.specs.Places.{IsOpening, IsClosing};
 ghost use Rattle.wx_reports.specs.Reports.{entry_no, opened_at, is_posting, posted, is_taking, taken, port_report};
 
 use wx_id::{ChannelNo, EntryNo, EventKind};
@@ -124,6 +125,8 @@ fn taken(entries: &[Entry], k: ChannelNo) -> u64
 pub fn port_report(entries: &[Entry], k: ChannelNo) -> Option<PortReport>
     ensures tells { result ≡ port_report (reverse entries.now) k.0 }
     ensures there { is_some result ≡ is_some (channel (reverse entries.now) k.0) }
+    ensures opened { IfSome result (λ report. IsOpening (reverse entries.now) k.0 report.opened) }
+    ensures closed { IfSome result (λ report. IfSome report.closed (IsClosing (reverse entries.now) k.0)) }
 {
     match opened_at(entries, k) {
         None => None,

@@ -2,6 +2,7 @@ ghost use Rattle.std.specs.Prelude.{◌≡◌, ℕ, Option, Some, None, cond, is
 ghost use Rattle.std.specs.Option.{option_or, option_map, IfSome};
 ghost use Rattle.wx_machine.specs.Requests.{request};
 ghost use Rattle.wx_machine.specs.Settling.{ends_request, settled_at};
+ghost use Rattle.wx_reports.specs.Places.{IsAsking, IsSettlement};
 ghost use Rattle.wx_reports.specs.Reports.{entry_no, asked_at, way, settlement, request_report};
 
 use crate::ports::found_at;
@@ -102,7 +103,9 @@ fn settlement(entries: &[Entry], r: RequestNo) -> Option<(EntryNo, Settled)>
 pub fn request_report(entries: &[Entry], r: RequestNo) -> Option<RequestReport>
     ensures tells { result ≡ request_report (reverse entries.now) r.0 }
     ensures there { is_some result ≡ is_some (request (reverse entries.now) r.0) }
+    ensures opened { IfSome result (λ report. IsAsking (reverse entries.now) r.0 report.opened) }
     ensures settled { IfSome result (λ report. option_map (λ s. s.0.0) report.settled ≡ settled_at (reverse entries.now) r.0) }
+    ensures way { IfSome result (λ report. IfSome report.settled (IsSettlement (reverse entries.now) r.0)) }
 {
     match asked_at(entries, r) {
         None => None,
