@@ -1,4 +1,4 @@
-ghost use Rattle.std.specs.Prelude.{◌≡◌, ℕ, Option, Some, None, cond, is_some, length, reverse};
+ghost use Rattle.std.specs.Prelude.{◌≡◌, Some, None, cond, is_some, length, reverse};
 ghost use Rattle.std.specs.Option.{option_or, option_map, IfSome};
 ghost use Rattle.wx_machine.specs.Requests.{request};
 ghost use Rattle.wx_machine.specs.Settling.{ends_request, settled_at};
