@@ -1,0 +1,2 @@
+mod ReportsLater
+mod Places

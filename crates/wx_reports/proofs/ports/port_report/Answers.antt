@@ -1,0 +1,13 @@
+use Rattle.std.proofs.Common.{sym, subst, ◌∙◌}
+use Rattle.std.specs.Prelude.{Option, IfSome, reverse}
+use Rattle.wx_id.specs.declared.numbers.EntryNo.{EntryNo}
+use Rattle.wx_reports.specs.Places.{IsClosing}
+use Rattle.wx_reports.proofs.Places.{opening_at, closing_at}
+use Rattle.wx_reports.proofs.ports.port_report.Goals as goal
+
+pub returns-in-Some-clause-opened : goal.returns-in-Some-clause-opened
+returns-in-Some-clause-opened c = opening_at (reverse c.args.entries.now) c.args.k.0 c.in-Some.opened (sym c.opened_at.ensures ∙ c.in-Some.is)
+
+pub returns-in-Some-clause-closed : goal.returns-in-Some-clause-closed
+returns-in-Some-clause-closed c =
+    subst (λ (o : Option EntryNo). IfSome o (IsClosing (reverse c.args.entries.now) c.args.k.0)) (sym c.closed_at.ensures) (closing_at (reverse c.args.entries.now) c.args.k.0)

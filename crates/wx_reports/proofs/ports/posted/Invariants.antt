@@ -1,0 +1,7 @@
+use Rattle.std.proofs.Common.{◌≡◌, ◌≤◌, take}
+use Rattle.std.specs.Prelude.{reverse}
+use Rattle.wx_reports.specs.Reports.{posted}
+use Rattle.wx_reports.proofs.ports.posted.Given as goal
+
+abbrev pub invariant-loop-i : goal.invariant-loop-i
+invariant-loop-i l = (l.count ≡ posted (reverse (take l.i l.entries)) l.k.0) × (l.count ≤ l.i)

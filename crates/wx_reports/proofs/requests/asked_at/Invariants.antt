@@ -1,0 +1,8 @@
+use Rattle.std.proofs.Common.{◌≡◌, ◌≤◌, take, length}
+use Rattle.std.specs.Prelude.{reverse}
+use Rattle.wx_machine.specs.Requests.{requests}
+use Rattle.wx_reports.specs.Reports.{asked_at}
+use Rattle.wx_reports.proofs.requests.asked_at.Given as goal
+
+abbrev pub invariant-loop-i : goal.invariant-loop-i
+invariant-loop-i l = (l.count ≡ length (requests (reverse (take l.i l.entries)))) × (l.count ≤ l.i) × (l.asked ≡ asked_at (reverse (take l.i l.entries)) l.r.0)
