@@ -1,5 +1,5 @@
 -- The answer and the lines by which the end of a run is told.
-use Rattle.std.specs.Prelude.{ℕ, ◌+◌, Bool, List, [], ◌∷◌, ◌++◌, Option, Some, None, slice_get, codes, if◌then◌else◌}
+use Rattle.std.specs.Prelude.{ℕ, ◌+◌, Bool, List, [], ◌∷◌, ◌++◌, Option, Some, None, slice_get, codes, decimal, if◌then◌else◌}
 use Rattle.wx_machine.specs.declared.entries.Entry.{Entry}
 use Rattle.wx_machine.specs.Contexts.{has_left}
 use Rattle.wx_script.specs.declared.scene.SceneEndpoint.{SceneEndpoint}
@@ -7,7 +7,7 @@ use Rattle.wx_script.specs.SceneValue.{SceneValue}
 use Rattle.wx_script.specs.Ends.{numbered}
 use Rattle.wx_run.specs.declared.outcome.RunEnd.{RunEnd}
 use Rattle.wx_run.specs.declared.outcome.RunEnd.TheVariants as end
-use Rattle.wx_script.specs.declared.scene.SpentWho.TheVariants.{Endpoint}
+use Rattle.wx_script.specs.declared.scene.SpentWho.TheVariants.{Endpoint, Host}
 use Rattle.wx_status.specs.declared.status.Status.{Status}
 use Rattle.wx_status.specs.declared.status.Status.TheVariants as status
 
@@ -32,6 +32,10 @@ stalled_from past n (e ∷ endpoints) = stalled_unless (has_left past (numbered 
 abbrev pub spent_line : List ℕ → List ℕ
 spent_line name = codes "wx: spent: " ++ (name ++ codes "\n")
 
+-- the line of the native host that is spent, by its number
+abbrev pub spent_host_line : ℕ → List ℕ
+spent_host_line h = codes "wx: spent: host " ++ (decimal h ++ codes "\n")
+
 -- the line of the endpoint that is spent
 abbrev pub spent_lines : Option SceneEndpoint → List ℕ
 spent_lines None = []
@@ -42,3 +46,4 @@ abbrev pub lines_of_end : SceneValue → List Entry → RunEnd → List ℕ
 lines_of_end scene past end.Done = []
 lines_of_end scene past end.Stalled = stalled_from past 0 scene.endpoints
 lines_of_end scene past (end.Spent (Endpoint n)) = spent_lines (slice_get scene.endpoints n)
+lines_of_end scene past (end.Spent (Host h)) = spent_host_line h.0

@@ -4,7 +4,7 @@ ghost use Rattle.wx_machine.specs.Contexts.{has_left};
 ghost use Rattle.wx_cmd.specs.Endings as endings;
 
 use std::alloc::{AllocError, Global};
-use wx_id::ContextNo;
+use wx_id::{ContextNo, HostNo};
 use wx_journal::Journal;
 use wx_machine::Entry;
 use wx_run::{RunEnd, SpentWho};
@@ -89,6 +89,21 @@ fn spent_lines(alloc: Global, endpoints: &[SceneEndpoint], n: u64) -> Result<Vec
     }
 }
 
+/// The line of a native host that is spent.
+fn spent_host_line(alloc: Global, h: u64) -> Result<String, AllocError>
+    ensures { IfOk result (λ line. string_bytes line ≡ endings.spent_host_line h) }
+{
+    format!(in alloc; "wx: spent: host {h}\n")
+}
+
+/// The line of that host, as bytes.
+fn spent_host_lines(alloc: Global, h: HostNo) -> Result<Vec<u8>, AllocError>
+    ensures { IfOk result (λ lines. lines.items ≡ endings.spent_host_line h.0) }
+{
+    let line = spent_host_line(alloc, h.0)?;
+    Vec::from_slice(alloc, line.as_bytes())
+}
+
 /// The lines that tell how a run of the scene ended.
 pub fn lines_of_end(
     alloc: Global,
@@ -102,5 +117,6 @@ pub fn lines_of_end(
         RunEnd::Done => Ok(Vec::new(alloc)),
         RunEnd::Stalled => stalled_lines(alloc, scene.endpoints(), journal.entries()),
         RunEnd::Spent(SpentWho::Endpoint(n)) => spent_lines(alloc, scene.endpoints(), n),
+        RunEnd::Spent(SpentWho::Host(h)) => spent_host_lines(alloc, h),
     }
 }

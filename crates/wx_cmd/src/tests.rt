@@ -2,6 +2,7 @@ use crate::endings::lines_of_end;
 use crate::wx;
 use std::alloc::{AllocError, Global};
 use std::test::Fail;
+use wx_id::HostNo;
 use wx_journal::Journal;
 use wx_match_pattern::{PatternFault, PatternKind};
 use wx_outside::{MemoryFile, MemoryShelf, MemorySink};
@@ -633,6 +634,7 @@ fn lines_of_ends(rt: HostRuntime) -> Result<(), Fail> {
         (RunEnd::Done, ""),
         (RunEnd::Spent(SpentWho::Endpoint(0)), "wx: spent: p\n"),
         (RunEnd::Spent(SpentWho::Endpoint(2)), "wx: spent: r\n"),
+        (RunEnd::Spent(SpentWho::Host(HostNo(12))), "wx: spent: host 12\n"),
     ];
     for (end, expected) in cases {
         let lines = lines_of_end(alloc, &scene, &journal, end)?;

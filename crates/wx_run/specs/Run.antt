@@ -1,5 +1,5 @@
 -- What a run of a scene leaves.
-use Rattle.std.specs.Prelude.{◌≡◌, ℕ, ◌≤◌, List, ◌++◌, reverse, Some}
+use Rattle.std.specs.Prelude.{◌≡◌, ℕ, ◌≤◌, List, ◌++◌, reverse, Some, None}
 use Rattle.wx_id.specs.declared.numbers.ContextNo.{ContextNo}
 use Rattle.wx_external.specs.World.{WorldLists}
 use Rattle.wx_machine.specs.declared.entries.Entry.{Entry}
@@ -10,10 +10,10 @@ use Rattle.wx_script.specs.Carries.{CarriesOut}
 use Rattle.wx_script.specs.Ends.{IsDone, IsStalled, spent_of, entries_by, entry_limit}
 use Rattle.wx_run.specs.declared.outcome.RunEnd.{RunEnd}
 use Rattle.wx_run.specs.declared.outcome.RunEnd.TheVariants.{Done, Stalled, Spent}
-use Rattle.wx_script.specs.declared.scene.SpentWho.TheVariants.{Endpoint}
+use Rattle.wx_script.specs.declared.scene.SpentWho.TheVariants.{Endpoint, Host}
 use Rattle.wx_run.specs.Opening.{opening}
 use Rattle.wx_run.specs.Rounds.{Rounds}
-use Rattle.wx_run.specs.Hosts.{HaveEnded}
+use Rattle.wx_run.specs.Hosts.{HaveEnded, spent_host}
 
 -- the journal begins with these entries
 abbrev pub BeginsWith : List Entry → List Entry → Type 0
@@ -24,6 +24,7 @@ abbrev pub EndsBy : List (List Command) → List Entry → RunEnd → Type 0
 EndsBy scripts past Done = IsDone scripts past × HaveEnded past
 EndsBy scripts past Stalled = IsStalled scripts past × HaveEnded past
 EndsBy scripts past (Spent (Endpoint n)) = spent_of scripts past ≡ Some n
+EndsBy scripts past (Spent (Host h)) = (spent_of scripts past ≡ None) × (spent_host past ≡ Some h)
 
 -- A journal that a run of the scene leaves, and how it ends.
 pub record IsRunOf (world : WorldLists) (scene : SceneValue) (journal : List Entry) (end : RunEnd) : Type 0 where

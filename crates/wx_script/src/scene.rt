@@ -4,7 +4,7 @@ ghost use Rattle.wx_script.specs.Sound.{AreSound};
 use crate::script::Script;
 use std::marker::Model;
 use wx_context::Context;
-use wx_id::{ExtensionId, Utf8Text};
+use wx_id::{ExtensionId, HostNo, Utf8Text};
 
 /// An extension that a scene declares.
 #[derive(Debug, Drop)]
@@ -78,6 +78,8 @@ pub struct SceneFault {
 pub enum SpentWho {
     /// The endpoint at this place of the scene, from 0.
     Endpoint(u64),
+    /// The native host of this number.
+    Host(HostNo),
 }
 
 /// Why bytes are not read as a scene.

@@ -41,7 +41,7 @@ pub enum Status {
     WriteFault,
     /// Memory was refused.
     NoMemory,
-    /// An endpoint has made 65,536 entries and has not ended, and the journal's text was written whole.
+    /// An endpoint or a native host has made 65,536 entries and has not ended, and the journal's text was written whole.
     Spent(SpentWho),
 }
 

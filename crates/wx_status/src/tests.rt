@@ -4,6 +4,7 @@ use crate::{
 use std::alloc::{AllocError, Global};
 use std::test::Fail;
 use wx_host_manifest::{HostFault, HostKey};
+use wx_id::HostNo;
 use wx_manifest::{Key, ManifestFault};
 use wx_match_pattern::{PatternFault, PatternKind};
 use wx_outside::MemorySink;
@@ -41,6 +42,7 @@ fn numbers(rt: HostRuntime) {
         (Status::WriteFault, 6),
         (Status::NoMemory, 7),
         (Status::Spent(SpentWho::Endpoint(3)), 8),
+        (Status::Spent(SpentWho::Host(HostNo(2))), 8),
     ];
     for (status, number) in cases {
         assert_eq!(rt; status.number(), number);
