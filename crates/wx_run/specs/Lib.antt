@@ -3,6 +3,7 @@ pub mod Rounds
 pub mod Run
 pub mod Cursors
 pub mod Hosts
+pub mod Slots
 pub mod Step
 pub mod Round
 pub mod Opened
