@@ -143,7 +143,7 @@ failed_refused_in old mid new before now n t h carried sent rose none = record {
 
 pub out_half : (old new : DeskState) (reader after : Unfinished) (before now : OutState) (refused : Bool) (bytes : List ℕ) (texts : List (List ℕ)) (rest : List ℕ) (unsaid : List (List ℕ)) (calls : List Call) (taken : List Entry → List (List ℕ)) (said : List (List ℕ))
     → Stretch (EndsFor (IsCause (said ≡ texts) rest before now) old.host) old new calls taken said → Gives before.stream now.stream bytes → IsSplit LONGEST_SAID (reader.bytes ++ bytes) texts rest → texts ≡ said ++ unsaid
-    → (refused ≡ false → unsaid ≡ []) → (refused ≡ false → Keeps reader.bytes rest after.bytes) → IsOutHalf old new reader after before now refused
+    → (refused ≡ false → unsaid ≡ []) → (refused ≡ false → Keeps rest after.bytes) → IsOutHalf old new reader after before now refused
 out_half old new reader after before now refused bytes texts rest unsaid calls taken said s given split is all_said kept =
     let E : List (List ℕ) → Type 0 = λ x. EachOwn (EndsFor (IsCause (x ≡ texts) rest before now) old.host) (past_of old) s.more in
     record {
@@ -182,7 +182,7 @@ cause_of all_said r before now closed Exited a h = (a, h)
 pub says_out : (start old new : DeskState) (reader after : Unfinished) (before now : OutState) (t : List ℕ) (result : OutTurn) → MakesNone start old → IsRead reader after before now (Some (Text t)) → Says old new t result → IsOutTurn start new reader after before now result
 says_out start old new reader after before now t out.Moved none read (a, h) =
     let one = none_then_one start old new (HostSaid t) a none h in
-    let K : List ℕ → Type 0 = Keeps reader.bytes [] in
+    let K : List ℕ → Type 0 = Keeps [] in
     record {
       half = out_half start new reader after before now false read.bytes (t ∷ []) [] [] (HostSaid t ∷ []) (λ past. text_taken past (HostSaid t) a) (t ∷ [])
           (stretch_own (EndsFor (IsCause (t ∷ [] ≡ t ∷ []) [] before now) start.host) start one.between new (HostSaid t) a one.others (ap (λ (d : DeskState). d.history) one.made) tt)
@@ -217,7 +217,7 @@ cause_at old new r before now reason none cause =
     subst P (sym (past-others old new none)) (subst H (sym none.same_host) (cause (entries_in none.others)))
 
 -- no frame was read, there is a cause to end, and the host ends or waits
-ends_out : (start old new : DeskState) (reader after : Unfinished) (before now : OutState) (bytes : List ℕ) (reason : Reason) (result : OutTurn) → MakesNone start old → Gives before.stream now.stream bytes → HasNoFrame (reader.bytes ++ bytes) → Keeps reader.bytes (reader.bytes ++ bytes) after.bytes
+ends_out : (start old new : DeskState) (reader after : Unfinished) (before now : OutState) (bytes : List ℕ) (reason : Reason) (result : OutTurn) → MakesNone start old → Gives before.stream now.stream bytes → HasNoFrame (reader.bytes ++ bytes) → Keeps (reader.bytes ++ bytes) after.bytes
     → CauseStays old (reader.bytes ++ bytes) before now reason → EndsOrWaits old new reason result → IsOutTurn start new reader after before now result
 unfolding out_half
 ends_out start old new reader after before now bytes reason out.Moved none given no_frame kept cause h = absurd h
@@ -256,11 +256,11 @@ ends_read start old new reader after before now reason result none read h =
     ends_out start old new reader after before now read.bytes reason result none read.given read.came.2 read.came.1 (λ more. cause_of NoneToSay r before now (said_closed (more ++ past_of old) old.host) reason refl read.came.0) h
 
 -- the channel was closed
-pub ends_closed : (start old new : DeskState) (reader : Unfinished) (output : OutState) (result : OutTurn) → MakesNone start old → said_closed (past_of old) old.host ≡ true → HasNoFrame reader.bytes → Keeps reader.bytes reader.bytes reader.bytes → EndsOrWaits old new Closed result
+pub ends_closed : (start old new : DeskState) (reader : Unfinished) (output : OutState) (result : OutTurn) → MakesNone start old → said_closed (past_of old) old.host ≡ true → HasNoFrame reader.bytes → Keeps reader.bytes reader.bytes → EndsOrWaits old new Closed result
     → IsOutTurn start new reader reader output output result
 ends_closed start old new reader output result none closed no_frame kept h =
     let F : List ℕ → Type 0 = HasNoFrame in
-    let K : List ℕ → Type 0 = λ r. Keeps reader.bytes r reader.bytes in
+    let K : List ℕ → Type 0 = λ r. Keeps r reader.bytes in
     ends_out start old new reader reader output output [] Closed result none (gives_nothing output.stream) (subst F (sym (append-nil reader.bytes)) no_frame) (subst K (sym (append-nil reader.bytes)) kept) (λ more. said_closed-more more (past_of old) old.host closed) h
 
 pub is_closed_turn : (start old new : DeskState) (reader : Unfinished) (output : OutState) (result : OutTurn) → MakesNone start old → EndsOrWaits old new Closed result → IsClosedTurn start new reader reader output output result

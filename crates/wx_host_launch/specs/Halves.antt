@@ -114,5 +114,5 @@ pub record IsOutHalf (old new : DeskState) (reader after : Unfinished) (before n
   pub unsaid : List (List ℕ)
   pub said : texts ≡ texts_said more ++ unsaid
   pub all : refused ≡ false → unsaid ≡ []
-  pub kept : refused ≡ false → Keeps reader.bytes rest after.bytes
+  pub kept : refused ≡ false → Keeps rest after.bytes
   pub ends : EachOwn (EndsFor (IsCause (texts_said more ≡ texts) rest before now) old.host) (past_of old) more
