@@ -180,6 +180,7 @@ cause_of all_said r before now closed Exited a h = (a, h)
 
 -- a text was read, and the host says it
 pub says_out : (start old new : DeskState) (reader after : Unfinished) (before now : OutState) (t : List ℕ) (result : OutTurn) → MakesNone start old → IsRead reader after before now (Some (Text t)) → Says old new t result → IsOutTurn start new reader after before now result
+unfolding out_half
 says_out start old new reader after before now t out.Moved none read (a, h) =
     let one = none_then_one start old new (HostSaid t) a none h in
     let K : List ℕ → Type 0 = Keeps [] in
@@ -187,7 +188,7 @@ says_out start old new reader after before now t out.Moved none read (a, h) =
       half = out_half start new reader after before now false read.bytes (t ∷ []) [] [] (HostSaid t ∷ []) (λ past. text_taken past (HostSaid t) a) (t ∷ [])
           (stretch_own (EndsFor (IsCause (t ∷ [] ≡ t ∷ []) [] before now) start.host) start one.between new (HostSaid t) a one.others (ap (λ (d : DeskState). d.history) one.made) tt)
           read.given (split_one (reader.bytes ++ read.bytes) t read.came.0) refl (λ e. refl) (λ e. subst K (sym read.came.1) (all (short_under_way [] LONGEST_SAID (omega arith)).no_trouble));
-      came = (t, a, one);
+      came = ((t, a, one), refl);
     }
 says_out start old new reader after before now t out.Waits none read h = absurd h
 says_out start old new reader after before now t out.Ended none read h = absurd h

@@ -1,5 +1,5 @@
 -- What one turn of a host's two pumps does.
-use Rattle.std.specs.Prelude.{◌≡◌, ℕ, Bool, true, false, List}
+use Rattle.std.specs.Prelude.{◌≡◌, ℕ, Bool, true, false, List, []}
 use Rattle.wx_id.specs.declared.numbers.EntryNo.{EntryNo}
 use Rattle.wx_native_frame.specs.Frames.{Unfinished}
 use Rattle.wx_machine.specs.declared.entries.Call.TheVariants.{HostSaid, HostEnded}
@@ -52,18 +52,18 @@ pub record IsInTurn (old new : DeskState) (before now : InState) (result : InTur
   pub half : IsInHalf old new before now (is_refused_in result)
   pub came : ComesIn old new before now result
 
--- what a turn of the output came to: a text was said; the host has a cause to end, and there is a text to take; it ended;
--- or memory was refused, and no entry was made
-abbrev pub ComesOut : DeskState → DeskState → (Reason → Type 0) → OutTurn → Type 0
-ComesOut old new cause out.Moved = (text : List ℕ) × (answer : Answer) × MakesOne old new (HostSaid text) answer
-ComesOut old new cause out.Waits = FindsText old new × ((reason : Reason) × cause reason)
-ComesOut old new cause out.Ended = (reason : Reason) × (answer : Answer) × Ends old new reason answer
-ComesOut old new cause out.NoMemory = MakesNone old new
+-- what a turn of the output came to: a text was said, and nothing was left behind it; the host has a cause to end, and
+-- there is a text to take; it ended; or memory was refused, and no entry was made
+abbrev pub ComesOut : DeskState → DeskState → List ℕ → (Reason → Type 0) → OutTurn → Type 0
+ComesOut old new rest cause out.Moved = ((text : List ℕ) × (answer : Answer) × MakesOne old new (HostSaid text) answer) × (rest ≡ [])
+ComesOut old new rest cause out.Waits = FindsText old new × ((reason : Reason) × cause reason)
+ComesOut old new rest cause out.Ended = (reason : Reason) × (answer : Answer) × Ends old new reason answer
+ComesOut old new rest cause out.NoMemory = MakesNone old new
 
 -- One turn of the output.
 pub record IsOutTurn (old new : DeskState) (reader after : Unfinished) (before now : OutState) (result : OutTurn) : Type 0 where
   pub half : IsOutHalf old new reader after before now (is_refused_out result)
-  pub came : ComesOut old new (IsCause (texts_said half.more ≡ half.texts) half.rest before now (said_closed (past_of new) new.host)) result
+  pub came : ComesOut old new half.rest (IsCause (texts_said half.more ≡ half.texts) half.rest before now (said_closed (past_of new) new.host)) result
 
 -- what a step comes to by which a host says a text
 abbrev pub Says : DeskState → DeskState → List ℕ → OutTurn → Type 0
