@@ -1,5 +1,5 @@
 -- Slots for the hosts that have none.
-use Rattle.std.proofs.Common.{◌≡◌, ℕ, ◌+◌, ◌-◌, ◌*◌, ◌<◌, ◌≤◌, length, cond, arith, List, [], ◌∷◌, ◌++◌, refl, sym, ap, ◌∙◌, subst}
+use Rattle.std.proofs.Common.{◌≡◌, ℕ, ◌+◌, ◌-◌, ◌*◌, ◌<◌, ◌≤◌, length, cond, arith, Bool, true, List, [], ◌∷◌, ◌++◌, refl, sym, ap, ◌∙◌, subst}
 use Rattle.std.specs.Prelude.{Some, None}
 use Rattle.std.proofs.lemmas.List.{length-append}
 use Rattle.wx_external.specs.World.{WorldLists}
@@ -57,3 +57,11 @@ slot_added world past start now old slots so below =
       left = (let left = left_append slots q in omega (arith, size, more, left, so.left));
       kept = ap with_place so.kept ∙ ap (λ n. record start { places = n }) places;
     }
+
+-- the same, as the loop has it
+pub slot_pushed : (world : WorldLists) (past : List Entry) (start now next one : StarterState) (old slots more : List SlotState) (q : SlotState) (ok : Bool) → AddedSoFar world past start now old slots → length slots < length (hosts past)
+    → one ≡ slot_like now → next ≡ with_place now → q ≡ waiting_slot one → more ≡ cond ok (slots ++ q ∷ []) slots → ok ≡ true → AddedSoFar world past start next old more
+slot_pushed world past start now next one old slots more q ok so below is_one is_next is_q is_more is_ok =
+    let pushed : more ≡ slots ++ waiting_slot (slot_like now) ∷ [] = is_more ∙ ap (λ b. cond b (slots ++ q ∷ []) slots) is_ok ∙ ap (λ q. slots ++ q ∷ []) (is_q ∙ ap waiting_slot is_one) in
+    subst (λ s. AddedSoFar world past start next old s) (sym pushed)
+    (subst (λ n. AddedSoFar world past start n old (slots ++ waiting_slot (slot_like now) ∷ [])) (sym is_next) (slot_added world past start now old slots so below))

@@ -1,10 +1,10 @@
 -- The hosts' part of a round, turn by turn. Every list of entries has the newest first.
-use Rattle.std.proofs.Common.{◌≡◌, ℕ, zero, suc, ◌+◌, ◌<◌, ◌≤◌, ◌⊎◌, inl, inr, length, set, cond, arith, Bool, true, false, List, [], ◌∷◌, refl, sym, ap, ◌∙◌, subst}
+use Rattle.std.proofs.Common.{◌≡◌, ℕ, zero, suc, ◌+◌, ◌<◌, ◌≤◌, ◌⊎◌, inl, inr, length, set, get_or, cond, arith, Bool, true, false, List, [], ◌∷◌, refl, sym, ap, ◌∙◌, subst}
 use Rattle.std.specs.declared.option.Option.{Option}
 use Rattle.std.specs.Prelude.{◌||◌, slice_get, Some, None}
 use Rattle.std.proofs.lemmas.Bool.{cases_lt}
 use Rattle.std.proofs.lemmas.List.{length-set}
-use Rattle.std.proofs.lemmas.Option.{slice_get_within}
+use Rattle.std.proofs.lemmas.Option.{slice_get_within, slice_get_read}
 use Rattle.wx_id.specs.declared.numbers.HostNo.{HostNo}
 use Rattle.wx_external.specs.World.{WorldLists}
 use Rattle.wx_machine.specs.declared.entries.Entry.{Entry}
@@ -132,6 +132,18 @@ serving_begins world old a unspent = record {
   rest = record { same = refl; same_slots = refl; none_ready = λ h below. absurd (omega arith); started = λ j p below is. absurd (omega arith) };
 }
 
+-- a slot at a place, as its host's turn asks for it
+pub record IsSlotAt (world : WorldLists) (i : ℕ) (slots : List SlotState) (past : List Entry) (p : SlotState) : Type 0 where
+  pub at : slice_get slots i ≡ Some p
+  pub stands : Stands p.starter.writing world past (host_numbered i) p
+  pub unspent : is_spent_at p ≡ false
+
+pub slot_at : (writing : Option Writing) (world : WorldLists) (i : ℕ) (slots : List SlotState) (past : List Entry) (p : SlotState) → HostsStand writing world past slots → first_spent_slot 0 slots ≡ None → i < length slots → p ≡ get_or slots i p → IsSlotAt world i slots past p
+slot_at writing world i slots past p so unspent below read =
+    let at = slice_get_read slots (length slots) i p refl below read in
+    let stands = stand_at writing world past slots 0 i i p so.stand at (omega arith) in
+    record { at = at; stands = subst (λ w. Stands w world past (host_numbered i) p) (sym stands.same_writing) stands; unspent = unspent_slot slots 0 i p unspent at }
+
 -- What the turn of the next host was and came to.
 pub record IsNextTurn (world : WorldLists) (i : ℕ) (slots : List SlotState) (before after : List Entry) (p q : SlotState) (came : Served) : Type 0 where
   pub at : slice_get slots i ≡ Some p
@@ -140,7 +152,7 @@ pub record IsNextTurn (world : WorldLists) (i : ℕ) (slots : List SlotState) (b
   pub started : WasStarted q
   pub came_to : CameTo (host_numbered i) before after p q came
 
-is_turn : (world : WorldLists) (i : ℕ) (slots : List SlotState) (a b : List Entry) (p q : SlotState) (came : Served) → IsNextTurn world i slots a b p q came → IsTurnOf world i slots a b p q
+pub is_turn : (world : WorldLists) (i : ℕ) (slots : List SlotState) (a b : List Entry) (p q : SlotState) (came : Served) → IsNextTurn world i slots a b p q came → IsTurnOf world i slots a b p q
 is_turn world i slots a b p q came next = record { at = next.at; adds = turn_adds (host_numbered i) a b next.turn; stands = next.stands }
 
 started_below : (i : ℕ) (old : List SlotState) (p : SlotState) → slice_get old i ≡ Some p → WasStarted p → ((j : ℕ) (r : SlotState) → j < i → slice_get old j ≡ Some r → WasStarted r)
@@ -184,15 +196,22 @@ rest_behind world i old slots a b c p q true served.Rested rest next =
 rest_behind world i old slots a b c p q false served.Rested rest next = rests_on world i old slots a b c p q rest next
 
 -- one more host made its turn, and is not spent
-pub turn_served : (world : WorldLists) (i : ℕ) (old slots : List SlotState) (a b c : List Entry) (p q : SlotState) (moved : Bool) (came : Served) → ServedSoFar world i old slots a b moved → IsNextTurn world i slots b c p q came → is_spent_at q ≡ false
+turn_served_next : (world : WorldLists) (i : ℕ) (old slots : List SlotState) (a b c : List Entry) (p q : SlotState) (moved : Bool) (came : Served) → ServedSoFar world i old slots a b moved → IsNextTurn world i slots b c p q came → is_spent_at q ≡ false
     → ServedSoFar world (suc i) old (set slots i q) a c (moved || is_moved came)
-turn_served world i old slots a b c p q moved came so next unspent = record {
+turn_served_next world i old slots a b c p q moved came so next unspent = record {
   same_size = length-set slots i q ∙ so.same_size;
   stand = λ writing first. stand_behind writing world i slots b c p q so.unspent (is_turn world i slots b c p q came next) (so.stand writing first);
   turns = (b, so.turns, next.turn);
   unspent = unspent_set slots 0 i q so.unspent unspent;
   rest = rest_behind world i old slots a b c p q moved came so.rest next;
 }
+
+pub turn_served : (world : WorldLists) (i : ℕ) (old slots : List SlotState) (a b c : List Entry) (p q : SlotState) (moved served : Bool) (came : Served) → ServedSoFar world i old slots a b moved → IsNextTurn world i slots b c p q came → served ≡ is_moved came
+    → is_spent_at q ≡ false → ServedSoFar world (i + 1) old (set slots i q) a c (moved || served)
+turn_served world i old slots a b c p q moved served came so next is unspent =
+    let one : suc i ≡ i + 1 = omega arith in
+    subst (λ n. ServedSoFar world n old (set slots i q) a c (moved || served)) one
+    (subst (λ m. ServedSoFar world (suc i) old (set slots i q) a c (moved || m)) (sym is) (turn_served_next world i old slots a b c p q moved came so next unspent))
 
 -- one more host made its turn, and is spent
 pub turn_spends : (writing : Option Writing) (world : WorldLists) (i : ℕ) (old slots : List SlotState) (a b c : List Entry) (p q : SlotState) (moved : Bool) (came : Served) → HostsStand writing world a old → length old ≡ length (hosts a)
@@ -282,6 +301,25 @@ pub record IsHeardTurn (world : WorldLists) (i : ℕ) (slots : List SlotState) (
   pub turn : SaysOrEnds (host_numbered i) before after
   pub stands : Stands p.starter.writing world after (host_numbered i) q
   pub less : turns_left q < turns_left p
+
+-- the slot of the first host that has not ended, as its turn asks for it
+pub record IsFirstSlot (world : WorldLists) (i : ℕ) (slots : List SlotState) (past : List Entry) (p : SlotState) : Type 0 where
+  pub slot : IsSlotAt world i slots past p
+  pub first : IsFirstUnended past (host_numbered i)
+  pub unended : p.ended ≡ false
+  pub started : WasStarted p
+
+pub first_slot : (writing : Option Writing) (world : WorldLists) (i : ℕ) (slots : List SlotState) (past : List Entry) (p : SlotState) → HostsStand writing world past slots → length slots ≡ length (hosts past) → first_spent_slot 0 slots ≡ None → AllWereStarted slots
+    → first_unended_slot 0 slots ≡ Some i → p ≡ get_or slots i p → IsFirstSlot world i slots past p
+first_slot writing world i slots past p so all unspent started found read =
+    let first = is_first_unended writing world past slots i so found in
+    let slot = slot_at writing world i slots past p so unspent (let below = first.is_host in omega (arith, below, all)) read in
+    record {
+      slot = slot;
+      first = first;
+      unended = ended_so p.starter.writing world past (host_numbered i) p slot.stands ∙ first.unended;
+      started = started_at slots i p started slot.at;
+    }
 
 pub heard_turn : (world : WorldLists) (i : ℕ) (slots : List SlotState) (a b : List Entry) (p q : SlotState) → IsHeardTurn world i slots a b p q → IsTurnOf world i slots a b p q
 heard_turn world i slots a b p q heard = record { at = heard.at; adds = says_adds (host_numbered i) a b heard.first.unended heard.turn; stands = heard.stands }

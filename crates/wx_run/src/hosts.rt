@@ -1,4 +1,4 @@
-ghost use Rattle.std.specs.Prelude.{◌≡◌, ◌+◌, ◌-◌, ◌*◌, ◌<◌, ◌≤◌, ◌++◌, length, map, reverse, None, IfOk, OnOk};
+ghost use Rattle.std.specs.Prelude.{◌≡◌, ◌+◌, ◌-◌, ◌*◌, ◌<◌, ◌≤◌, ◌++◌, length, map, reverse, Option, None, IfOk, OnOk};
 ghost use Rattle.wx_machine.specs.Answers.{IsLegal};
 ghost use Rattle.wx_machine.specs.Hosts.{hosts};
 ghost use Rattle.wx_host_launch.specs.Records.{Writing};
