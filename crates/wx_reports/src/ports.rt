@@ -5,7 +5,7 @@ ghost use Rattle.wx_machine.specs.Answers.{IsLegal};
 ghost use Rattle.wx_machine.specs.Channels.{channel};
 ghost use Rattle.wx_machine.specs.Closing.{closed_at};
 ghost use Rattle.wx_laws.specs.Keeping.{KeepsChannel};
-ghost use Rattle.wx_reports.specs.Counts.{given_on};
+ghost use Rattle.wx_reports.specs.Counts.{given_on, taken_on};
 ghost use Rattle.wx_reports.specs.Places.{IsOpening, IsClosing};
 ghost use Rattle.wx_reports.specs.Reports.{entry_no, opened_at, is_posting, posted, is_taking, taken, port_report};
 
@@ -134,6 +134,7 @@ pub fn port_report(entries: &[Entry], k: ChannelNo) -> Option<PortReport>
     ensures closed { IfSome result (λ report. IfSome report.closed (IsClosing (reverse entries.now) k.0)) }
     ensures laws { (world : WorldLists) → IsLegal world entries.now → IfSome result (λ report. KeepsChannel entries.now k.0 (option_map (λ n. n.0) report.closed)) }
     ensures given { (world : WorldLists) → IsLegal world entries.now → IfSome result (λ report. report.posted ≡ given_on (reverse entries.now) k.0) }
+    ensures taken { (world : WorldLists) → IsLegal world entries.now → IfSome result (λ report. report.taken ≡ taken_on (reverse entries.now) k.0) }
 {
     match opened_at(entries, k) {
         None => None,

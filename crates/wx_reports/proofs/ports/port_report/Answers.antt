@@ -4,7 +4,7 @@ use Rattle.wx_id.specs.declared.numbers.EntryNo.{EntryNo}
 use Rattle.wx_laws.proofs.Keeping.{keeps_channel}
 use Rattle.wx_machine.specs.Closing.{closed_at}
 use Rattle.wx_reports.specs.Places.{IsClosing}
-use Rattle.wx_reports.proofs.Counts.{posted_is, number_back}
+use Rattle.wx_reports.proofs.Counts.{posted_is, taken_is, number_back}
 use Rattle.wx_reports.proofs.Places.{opening_at, closing_at}
 use Rattle.wx_reports.proofs.ports.port_report.Goals as goal
 
@@ -21,3 +21,6 @@ returns-in-Some-clause-laws c = λ world legal.
 
 pub returns-in-Some-clause-given : goal.returns-in-Some-clause-given
 returns-in-Some-clause-given c = λ world legal. c.posted.ensures ∙ posted_is world (reverse c.args.entries.now) c.args.k.0 legal
+
+pub returns-in-Some-clause-taken : goal.returns-in-Some-clause-taken
+returns-in-Some-clause-taken c = λ world legal. c.taken.ensures ∙ taken_is world (reverse c.args.entries.now) c.args.k.0 legal
