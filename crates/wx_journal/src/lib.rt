@@ -10,3 +10,4 @@ mod tests;
 pub use list::Journal;
 pub use wx_journal_read::{JournalFault, JournalKind, JournalReadFault};
 pub use wx_machine::{Answer, Call, Entry, JsonText, Who};
+pub use wx_reports::{PortReport, RequestReport, Settled};

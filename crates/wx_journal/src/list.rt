@@ -1,4 +1,4 @@
-ghost use Rattle.std.specs.Prelude.{◌≡◌, List, Ok, ◌+◌, ◌<◌, ◌≤◌, [], ◌∷◌, ◌++◌, length, IfOk, IfErr, OnOk, OnErr, IsOk, slice_get, option_copied, ◌==◌};
+ghost use Rattle.std.specs.Prelude.{◌≡◌, List, Ok, ◌+◌, ◌<◌, ◌≤◌, [], ◌∷◌, ◌++◌, length, IfOk, IfErr, OnOk, OnErr, IsOk, slice_get, option_copied, ◌==◌, reverse};
 ghost use Rattle.std.specs.Option.{option_and_then};
 ghost use Rattle.wx_machine.specs.Carried.{text_in};
 ghost use Rattle.wx_machine.specs.declared.entries.Entry.{Entry};
@@ -7,14 +7,16 @@ ghost use Rattle.wx_journal_read.specs.Fits.{JournalFits};
 ghost use Rattle.wx_journal_read.specs.Gives.{GivesWhole, IfBad};
 ghost use Rattle.wx_journal_text.specs.Text.{journal_text};
 ghost use Rattle.wx_journal.specs.Journal.{IsTextOfNoOther};
+ghost use Rattle.wx_reports.specs.Reports.{port_report, request_report};
 
 use std::alloc::Global;
 use std::marker::Model;
-use wx_id::{EntryNo, NoMemory};
+use wx_id::{ChannelNo, EntryNo, NoMemory, RequestNo};
 use wx_journal_read::laws::different_texts;
 use wx_journal_read::{JournalReadFault, fits, read};
 use wx_journal_text::print;
 use wx_machine::{Call, Entry, JsonText};
+use wx_reports::{PortReport, RequestReport, port_report, request_report};
 
 /// A list of entries. An entry's number is its place, from 0. Contracts see the entries, oldest first, and
 /// how many more have room.
@@ -125,6 +127,20 @@ impl Journal {
         ensures { result.now ≡ self.now.entries }
     {
         self.entries.as_slice()
+    }
+
+    /// What the journal tells of channel k, none where there is no such channel.
+    pub fn port_report(&self, k: ChannelNo) -> Option<PortReport>
+        ensures value { result ≡ port_report (reverse self.now.entries) k.0 }
+    {
+        port_report(&self.entries, k)
+    }
+
+    /// What the journal tells of request r, none where there is no such request.
+    pub fn request_report(&self, r: RequestNo) -> Option<RequestReport>
+        ensures value { result ≡ request_report (reverse self.now.entries) r.0 }
+    {
+        request_report(&self.entries, r)
     }
 
     /// Reads the journal whose text the bytes are. Whether the broker would answer so is not asked.
