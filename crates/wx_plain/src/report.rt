@@ -35,21 +35,26 @@ fn put_entry(out: &mut Vec<u8>, entry: Option<EntryNo>) -> Result<(), AllocError
     }
 }
 
+/// The end of a channel's line.
+fn put_counts(out: &mut Vec<u8>, posted: u64, taken: u64) -> Result<(), AllocError>
+    ensures { OnOk result (out.new.items ≡ out.old.items ++ (codes "posted" ␣ decimal posted ␣ codes "taken" ␣ (decimal taken ++ codes "\n"))) }
+{
+    put_count(out, b"posted", posted)?;
+    put(out, b"taken ")?;
+    put_number(out, taken)?;
+    put(out, b"\n")
+}
+
 /// The line of a channel.
 fn put_channel(out: &mut Vec<u8>, k: u64, report: PortReport) -> Result<(), AllocError>
     ensures { OnOk result (out.new.items ≡ out.old.items ++ reporting.channel_line k report) }
 {
     put_count(out, b"channel", k)?;
     put_count(out, b"opened", report.opened.0)?;
-    put(out, b"closed")?;
-    put(out, b" ")?;
+    put(out, b"closed ")?;
     put_entry(out, report.closed)?;
     put(out, b" ")?;
-    put_count(out, b"posted", report.posted)?;
-    put(out, b"taken")?;
-    put(out, b" ")?;
-    put_number(out, report.taken)?;
-    put(out, b"\n")
+    put_counts(out, report.posted, report.taken)
 }
 
 /// The word for how a request is settled.
@@ -86,8 +91,7 @@ fn put_request(out: &mut Vec<u8>, r: u64, report: RequestReport) -> Result<(), A
 {
     put_count(out, b"request", r)?;
     put_count(out, b"opened", report.opened.0)?;
-    put(out, b"settled")?;
-    put(out, b" ")?;
+    put(out, b"settled ")?;
     put_settlement(out, report.settled)?;
     put(out, b"\n")
 }
