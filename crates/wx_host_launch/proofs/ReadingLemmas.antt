@@ -1,24 +1,24 @@
 -- Reading, piece by piece.
-use Rattle.std.proofs.Common.{◌≡◌, ℕ, ◌+◌, ◌-◌, ◌<◌, ◌≤◌, min, zero, suc, List, [], ◌∷◌, ◌++◌, length, take, drop, Option, Some, None, refl, ap, ◌∙◌, sym, subst, arith, inl, inr, append_assoc, length-append, take-append-drop}
+use Rattle.std.proofs.Common.{◌≡◌, ℕ, ◌+◌, ◌<◌, ◌≤◌, zero, suc, List, [], ◌∷◌, ◌++◌, length, take, drop, Option, Some, None, refl, ap, ◌∙◌, sym, subst, arith, inl, inr, append_assoc, length-append}
 use Rattle.std.specs.Prelude.{IfSome, IfNone, option_map}
 use Rattle.std.proofs.lemmas.Bool.{cases_lt}
-use Rattle.std.proofs.lemmas.List.{append-nil, take-append-le, take-take, take_all, length-take}
-use Rattle.std.proofs.Math.Seq.{take-append-add}
+use Rattle.std.proofs.lemmas.List.{append-nil, take_all, length-take}
 use Rattle.wx_json.specs.Text.{IsJsonText}
-use Rattle.wx_native_frame.specs.Frames.{Unfinished, told, IsFrame, IsTrouble, IsUnderWay, EndsFrame, StopsAt}
+use Rattle.wx_native_frame.specs.Frames.{Unfinished, told, IsFrame, IsTrouble, IsTroubleFirst, IsUnderWay, EndsFrame, StopsAt}
 use Rattle.wx_native_frame.specs.Frames.{too_long}
 use Rattle.wx_native_frame.specs.declared.FrameFault.{FrameFault}
 use Rattle.wx_native_frame.specs.declared.FrameFault.TheVariants as fault
 use Rattle.wx_native_frame.proofs.Empty.{empty_unfinished}
 use Rattle.wx_native_frame.proofs.Lengths.{told-append, append_take-drop}
-use Rattle.wx_native_frame.proofs.FrameLaws.{frame-length, frame-told, short_no_trouble, trouble-append, trouble_no_frame}
+use Rattle.wx_native_frame.proofs.FrameLaws.{frame-length, frame-told, short_no_trouble, trouble_no_frame}
+use Rattle.wx_native_frame.proofs.StepLaws.{stops_first}
 use Rattle.wx_native_frame.proofs.SplitLaws.{end_no_trouble}
 use Rattle.wx_machine.specs.declared.entries.Reason.{Reason}
 use Rattle.wx_machine.specs.declared.entries.Reason.TheVariants.{StartFailed, ReadFailed, WriteFailed, TooLong, BadJson, Cut, Exited, Closed}
 use Rattle.wx_machine.specs.declared.entries.TheConstants.{LONGEST_SAID}
 use Rattle.wx_outside.specs.Causes.{Rose}
 use Rattle.wx_host_launch.specs.Pipes.{Stream, OutState, Gives}
-use Rattle.wx_host_launch.specs.Reading.{IsTroubleFirst, IsReadingEnd, Keeps, all, to_trouble, heard_of, HasNoFrame, Came, IsRead, IsWithinFrame}
+use Rattle.wx_host_launch.specs.Reading.{IsReadingEnd, Keeps, all, to_trouble, heard_of, HasNoFrame, Came, IsRead, IsWithinFrame}
 use Rattle.wx_host_launch.specs.declared.reading.Heard.{Heard}
 use Rattle.wx_host_launch.specs.declared.reading.Heard.TheVariants.{Text, Ends, NoMemory}
 
@@ -67,40 +67,20 @@ stepped limit after b p left used old new (Some t) is same w more some none = (w
 -- What stays in hand
 
 -- what a reader that stops has in hand
-stops_first : (b p left : List ℕ) (f : FrameFault) (h : StopsAt LONGEST_SAID b p f left) → IsTroubleFirst b → IsTroubleFirst left
-stops_first b p left f h first i g lt tr = elim (cases_lt i (length b)) [
-  | inl less ↦ first i g less (T (ap (take i) h.left_is ∙ take-append-le i b (take h.upto p) (omega arith)) tr)
-  | inr le ↦ h.least (i - length b) g (omega (arith, long)) (T (behind le) tr)
-]
-  where
-    T : {x y : List ℕ} → x ≡ y → IsTrouble x LONGEST_SAID g → IsTrouble y LONGEST_SAID g
-    T e = let P : List ℕ → Type 0 = λ x. IsTrouble x LONGEST_SAID g in subst P e
-
-    long : length left ≡ length b + min h.upto (length p)
-    long = ap length h.left_is ∙ length-append b (take h.upto p) ∙ ap (λ n. length b + n) (length-take h.upto p)
-
-    behind : length b ≤ i → take i left ≡ b ++ take (i - length b) p
-    behind le =
-        let at : i ≡ length b + (i - length b) = omega arith in
-        ap (take i) h.left_is ∙ ap (λ n. take n (b ++ take h.upto p)) at ∙ take-append-add b (take h.upto p) (i - length b) ∙ ap (λ x. b ++ x) (shorter (omega (arith, long)))
-      where
-        shorter : i - length b ≤ h.upto → take (i - length b) (take h.upto p) ≡ take (i - length b) p
-        shorter less = take-take (i - length b) h.upto p less
-
-keeps_to_trouble : (b p left : List ℕ) (f : FrameFault) → StopsAt LONGEST_SAID b p f left → Keeps b (b ++ p) left
-keeps_to_trouble b p left f h =
-    to_trouble f (drop h.upto p) (sym (append_take-drop b p h.upto) ∙ ap (λ x. x ++ drop h.upto p) (sym h.left_is)) h.trouble h.kept (stops_first b p left f h)
+keeps_to_trouble : (b p left : List ℕ) (f : FrameFault) → IsTroubleFirst b LONGEST_SAID → StopsAt LONGEST_SAID b p f left → Keeps (b ++ p) left
+keeps_to_trouble b p left f first h =
+    to_trouble f (drop h.upto p) (sym (append_take-drop b p h.upto) ∙ ap (λ x. x ++ drop h.upto p) (sym h.left_is)) h.trouble h.kept (stops_first LONGEST_SAID b p left f h first)
 
 -- what a fault comes to
-pub stopped : (limit : ℕ) (b p left : List ℕ) (old new : OutState) (f : FrameFault) → limit ≡ LONGEST_SAID → ((f ≡ fault.NoMemory → ⊥) → StopsAt limit b p f left) → (f ≡ fault.NoMemory → length b + length p ≤ 4)
+pub stopped : (limit : ℕ) (b p left : List ℕ) (old new : OutState) (f : FrameFault) → limit ≡ LONGEST_SAID → IsTroubleFirst b LONGEST_SAID → ((f ≡ fault.NoMemory → ⊥) → StopsAt limit b p f left) → (f ≡ fault.NoMemory → length b + length p ≤ 4)
     → Came b (b ++ p) left old new (Some (heard_of f))
-stopped limit b p left old new (fault.TooLong n) is stops short =
+stopped limit b p left old new (fault.TooLong n) is first stops short =
     let L : ℕ → Type 0 = λ l. StopsAt l b p (fault.TooLong n) left in
-    let h = subst L is (stops (λ e. cc)) in (h.trouble, keeps_to_trouble b p left (fault.TooLong n) h, trouble_no_frame (b ++ p) LONGEST_SAID (fault.TooLong n) (omega arith) h.trouble)
-stopped limit b p left old new (fault.BadJson f) is stops short =
+    let h = subst L is (stops (λ e. cc)) in (h.trouble, keeps_to_trouble b p left (fault.TooLong n) first h, trouble_no_frame (b ++ p) LONGEST_SAID (fault.TooLong n) (omega arith) h.trouble)
+stopped limit b p left old new (fault.BadJson f) is first stops short =
     let L : ℕ → Type 0 = λ l. StopsAt l b p (fault.BadJson f) left in
-    let h = subst L is (stops (λ e. cc)) in (h.trouble, keeps_to_trouble b p left (fault.BadJson f) h, trouble_no_frame (b ++ p) LONGEST_SAID (fault.BadJson f) (omega arith) h.trouble)
-stopped limit b p left old new fault.NoMemory is stops short =
+    let h = subst L is (stops (λ e. cc)) in (h.trouble, keeps_to_trouble b p left (fault.BadJson f) first h, trouble_no_frame (b ++ p) LONGEST_SAID (fault.BadJson f) (omega arith) h.trouble)
+stopped limit b p left old new fault.NoMemory is first stops short =
     let most = short refl in
     no_short_frame (b ++ p) (omega (arith, length-append b p))
 
@@ -128,20 +108,15 @@ stays : (limit : ℕ) (b left : List ℕ) (f : FrameFault) → StopsAt limit b [
 stays limit b left f h = h.left_is ∙ ap (λ x. b ++ x) (take_nothing h.upto [] refl) ∙ append-nil b
 
 -- what was found before is found again, and nothing comes in
-pub again : (limit : ℕ) (b left : List ℕ) (old new : OutState) (f : FrameFault) → limit ≡ LONGEST_SAID → ((g : FrameFault) × IsTrouble b LONGEST_SAID g) → ((f ≡ fault.NoMemory → ⊥) → StopsAt limit b [] f left) → (f ≡ fault.NoMemory → length b < 4)
+pub again : (limit : ℕ) (b left : List ℕ) (old new : OutState) (f : FrameFault) → limit ≡ LONGEST_SAID → ((g : FrameFault) × IsTrouble b LONGEST_SAID g) → IsTroubleFirst b LONGEST_SAID → ((f ≡ fault.NoMemory → ⊥) → StopsAt limit b [] f left) → (f ≡ fault.NoMemory → length b < 4)
     → Came b b left old new (Some (heard_of f)) × (left ≡ b)
-again limit b left old new f is (g, h) stops short =
+again limit b left old new f is (g, h) first stops short =
     let P : List ℕ → Type 0 = λ x. Came b x left old new (Some (heard_of f)) in
     let long = trouble_is_long b g h in
     let some : f ≡ fault.NoMemory → ⊥ = λ e. let few = short e in omega arith in
-    (subst P (append-nil b) (stopped limit b [] left old new f is stops (λ e. absurd (some e))), stays limit b left f (stops some))
+    (subst P (append-nil b) (stopped limit b [] left old new f is first stops (λ e. absurd (some e))), stays limit b left f (stops some))
 
 -- One read
-
-under_way_first : (b : List ℕ) → IsUnderWay b LONGEST_SAID → IsTroubleFirst b
-under_way_first b u i f lt tr =
-    let P : List ℕ → Type 0 = λ x. IsTrouble x LONGEST_SAID f in
-    u.no_trouble f (subst P (take-append-drop i b) (trouble-append (take i b) (drop i b) LONGEST_SAID f tr))
 
 -- with what is wanted, or less, no byte behind a frame comes in
 pub within : (r : Unfinished) (more wanted : ℕ) → r.limit ≡ LONGEST_SAID → IsUnderWay r.bytes LONGEST_SAID → more ≤ wanted → (length r.bytes < 4 → wanted + length r.bytes ≡ 4) → (4 ≤ length r.bytes → IsUnderWay r.bytes r.limit → wanted + length r.bytes ≡ 4 + told r.bytes) → IsWithinFrame r.bytes more
@@ -171,7 +146,7 @@ under_way_short r wanted is some under_way text = elim (cases_lt (length r.bytes
 pub read_nothing : (reader after : Unfinished) (old new : OutState) (reason : Reason) → after ≡ reader → reader.limit ≡ LONGEST_SAID → IsUnderWay reader.bytes LONGEST_SAID → Gives old.stream new.stream [] → old.faults ≤ new.faults → IsReadingEnd reader.bytes old new reason
     → IsRead reader after old new (Some (Ends reason))
 read_nothing reader after old new reason same is u given later h =
-    let P : List ℕ → Type 0 = λ x. IsReadingEnd x old new reason × Keeps reader.bytes x reader.bytes × HasNoFrame x in
+    let P : List ℕ → Type 0 = λ x. IsReadingEnd x old new reason × Keeps x reader.bytes × HasNoFrame x in
     let R : Unfinished → Type 0 = λ x. IsRead reader x old new (Some (Ends reason)) in
     subst R (sym same) (record { bytes = []; given = given; later = later; limit = is; came = subst P (sym (append-nil reader.bytes)) (h, all u.no_trouble, u.no_frame) })
 
@@ -192,10 +167,9 @@ pub record ReadSoFar (start now : Unfinished) (old new : OutState) : Type 0 wher
   pub later : old.faults ≤ new.faults
   pub limit : now.limit ≡ LONGEST_SAID
   pub bytes_are : now.bytes ≡ start.bytes ++ bytes
-  pub first : IsTroubleFirst start.bytes → IsTroubleFirst now.bytes
 
 pub begins : (start : Unfinished) (output : OutState) → start.limit ≡ LONGEST_SAID → ReadSoFar start start output output
-begins start output is = record { bytes = []; given = gives_nothing output.stream; later = omega arith; limit = is; bytes_are = sym (append-nil start.bytes); first = λ h. h }
+begins start output is = record { bytes = []; given = gives_nothing output.stream; later = omega arith; limit = is; bytes_are = sym (append-nil start.bytes) }
 
 gives_more : (a b c : Option Stream) (x y : List ℕ) → Gives a b x → Gives b c y → Gives a c (x ++ y)
 gives_more None None None x y g h = tt
@@ -204,10 +178,6 @@ gives_more None None (Some c) x y g h = absurd h
 gives_more None (Some b) c x y g h = absurd g
 gives_more (Some a) None c x y g h = absurd g
 gives_more (Some a) (Some b) None x y g h = absurd h
-
-keeps_from : (b c r left : List ℕ) → (IsTroubleFirst b → IsTroubleFirst c) → Keeps c r left → Keeps b r left
-keeps_from b c r left f (all none) = all none
-keeps_from b c r left f (to_trouble g more parts h k first) = to_trouble g more parts h k (λ t. first (f t))
 
 rose_from : (a b c : ℕ) → a ≤ b → Rose b c → Rose a c
 rose_from a b c le h = omega arith
@@ -222,11 +192,11 @@ end_from r old between new (Cut have) le h = h
 end_from r old between new Exited le h = h
 end_from r old between new Closed le h = h
 
-came_from : (b c x r left : List ℕ) (old between new : OutState) (heard : Option Heard) → c ≡ b ++ x → (IsTroubleFirst b → IsTroubleFirst c) → old.faults ≤ between.faults → Came c r left between new heard → Came b r left old new heard
-came_from b c x r left old between new None e f le h = let longer = h.2 in (h.0, h.1, omega (arith, ap length e, length-append b x))
-came_from b c x r left old between new (Some (Text t)) e f le h = h
-came_from b c x r left old between new (Some (Ends reason)) e f le h = (end_from r old between new reason le h.0, keeps_from b c r left f h.1, h.2)
-came_from b c x r left old between new (Some NoMemory) e f le h = h
+came_from : (b c x r left : List ℕ) (old between new : OutState) (heard : Option Heard) → c ≡ b ++ x → old.faults ≤ between.faults → Came c r left between new heard → Came b r left old new heard
+came_from b c x r left old between new None e le h = let longer = h.2 in (h.0, h.1, omega (arith, ap length e, length-append b x))
+came_from b c x r left old between new (Some (Text t)) e le h = h
+came_from b c x r left old between new (Some (Ends reason)) e le h = (end_from r old between new reason le h.0, h.1, h.2)
+came_from b c x r left old between new (Some NoMemory) e le h = h
 
 -- what one read more came to is what all came to
 pub reads_on : (start now after : Unfinished) (old between new : OutState) (heard : Option Heard) → ReadSoFar start now old between → IsRead now after between new heard → IsRead start after old new heard
@@ -240,16 +210,15 @@ reads_on start now after old between new heard so h =
       given = gives_more old.stream between.stream new.stream so.bytes h.bytes so.given h.given;
       later = omega arith;
       limit = h.limit;
-      came = subst P whole (came_from start.bytes now.bytes so.bytes (now.bytes ++ h.bytes) after.bytes old between new heard so.bytes_are so.first so.later h.came);
+      came = subst P whole (came_from start.bytes now.bytes so.bytes (now.bytes ++ h.bytes) after.bytes old between new heard so.bytes_are so.later h.came);
     }
 
 -- and where it came to nothing yet, reading goes on
 pub goes_on : (start now after : Unfinished) (old between new : OutState) → ReadSoFar start now old between → IsRead now after between new None → ReadSoFar start after old new × (length now.bytes < length after.bytes)
 goes_on start now after old between new so h =
     let all = reads_on start now after old between new None so h in
-    let P : List ℕ → Type 0 = λ x. IsUnderWay x LONGEST_SAID in
     let longer = h.came.2 in (
-      record { bytes = all.bytes; given = all.given; later = all.later; limit = all.limit; bytes_are = all.came.1; first = λ t. under_way_first after.bytes (subst P (sym all.came.1) all.came.0) },
+      record { bytes = all.bytes; given = all.given; later = all.later; limit = all.limit; bytes_are = all.came.1 },
       omega (arith, ap length h.came.1),
     )
 
@@ -262,12 +231,12 @@ ends_again start now after old new heard so same h =
 -- A reader
 
 -- a reader has no whole frame in hand, and at once what trouble there is
-pub in_hand : (r : Unfinished) (wanted : ℕ) → r.limit ≡ LONGEST_SAID → (wanted ≡ 0 → (f : FrameFault) × IsTrouble r.bytes r.limit f) → (0 < wanted → IsUnderWay r.bytes r.limit) → HasNoFrame r.bytes × Keeps r.bytes r.bytes r.bytes
-in_hand r wanted is none some = elim (cases_lt 0 wanted) [
+pub in_hand : (r : Unfinished) (wanted : ℕ) → r.limit ≡ LONGEST_SAID → (wanted ≡ 0 → (f : FrameFault) × IsTrouble r.bytes r.limit f) → (0 < wanted → IsUnderWay r.bytes r.limit) → IsTroubleFirst r.bytes r.limit → HasNoFrame r.bytes × Keeps r.bytes r.bytes
+in_hand r wanted is none some first = elim (cases_lt 0 wanted) [
   | inl lt ↦ let L : ℕ → Type 0 = λ l. IsUnderWay r.bytes l in let u = subst L is (some lt) in (u.no_frame, all u.no_trouble)
   | inr le ↦
       let (f, h) = none (omega arith) in
       let L : ℕ → Type 0 = λ l. IsTrouble r.bytes l f in
       let t = subst L is h in
-      (trouble_no_frame r.bytes LONGEST_SAID f (omega arith) t, to_trouble f [] (sym (append-nil r.bytes)) t t (λ first. first))
+      (trouble_no_frame r.bytes LONGEST_SAID f (omega arith) t, to_trouble f [] (sym (append-nil r.bytes)) t t (subst (IsTroubleFirst r.bytes) is first))
 ]

@@ -16,15 +16,17 @@ use Rattle.wx_machine.specs.declared.entries.Answer.{Answer}
 use Rattle.wx_machine.specs.declared.entries.Answer.TheVariants as answer
 use Rattle.wx_machine.specs.declared.entries.Entry.{Entry}
 use Rattle.wx_machine.specs.declared.entries.TheConstants.{LONGEST, LONGEST_SAID}
-use Rattle.wx_machine.specs.Answers.{is_host_ready}
+use Rattle.wx_external.specs.World.{WorldLists}
+use Rattle.wx_machine.specs.Answers.{FollowsMachine, is_host_ready}
 use Rattle.wx_machine.specs.Carried.{text_of}
+use Rattle.wx_machine.specs.Each.{EachAfter}
 use Rattle.wx_machine.specs.Texts.{next_text, said_closed}
 use Rattle.wx_outside.specs.Causes.{Rose}
 use Rattle.wx_outside.specs.Sink.{added, AddsFront}
 use Rattle.wx_host_launch.specs.History.{Seen, entries_in, EachOwn}
 use Rattle.wx_host_launch.specs.Pipes.{InState, OutState, Gives}
-use Rattle.wx_host_launch.specs.Steps.{DeskState, IsSound, past_of, MakesNone, MakesOne, TakesNews, FindsNoNews}
-use Rattle.wx_host_launch.specs.Halves.{text_taken, texts_taken, Sends, whole, in_part, ends_by_write, EndsLast, TakesReady, IsInHalf, EndsFor, IsCause, IsOutHalf}
+use Rattle.wx_host_launch.specs.Steps.{DeskState, IsSound, past_of, MakesNone, MakesOne, TakesNews, FindsNoNews, Ends}
+use Rattle.wx_host_launch.specs.Halves.{text_taken, texts_taken, Sends, whole, in_part, ends_by_write, EndsLast, TakesReady, IsInHalf, EndsFor, last_said_closed, IsCause, IsOutHalf}
 use Rattle.wx_host_launch.specs.Turns.{IsInTurn, IsOutTurn, IsClosedTurn, at_once, behind_write, Says, EndsOrWaits}
 use Rattle.wx_host_launch.specs.declared.turns.InTurn.TheVariants as into
 use Rattle.wx_host_launch.specs.declared.turns.OutTurn.{OutTurn}
@@ -32,7 +34,8 @@ use Rattle.wx_host_launch.specs.declared.turns.OutTurn.TheVariants as out
 use Rattle.wx_host_launch.specs.Reading.{HasNoFrame, IsReadingEnd, Keeps, all, IsRead}
 use Rattle.wx_host_launch.specs.declared.reading.Heard.TheVariants.{Text, Ends as HasEnd, NoMemory}
 use Rattle.wx_host_launch.proofs.ReadingLemmas.{gives_nothing}
-use Rattle.wx_host_launch.proofs.HostLemmas.{HasShortText, taken_short, text_of-more, said_closed-more}
+use Rattle.wx_host_launch.proofs.HostLemmas.{HasShortText, taken_short, text_of-more}
+use Rattle.wx_host_launch.proofs.ClosedLemmas.{said_closed-more, last_closed, said_at_last}
 use Rattle.wx_host_launch.proofs.StepLemmas.{past-others, none_twice, none_then_one, none_then_ends, none_then_text, Stretch, stretch_none, stretch_own, stretch_twice}
 
 -- Taking
@@ -143,7 +146,7 @@ failed_refused_in old mid new before now n t h carried sent rose none = record {
 
 pub out_half : (old new : DeskState) (reader after : Unfinished) (before now : OutState) (refused : Bool) (bytes : List ℕ) (texts : List (List ℕ)) (rest : List ℕ) (unsaid : List (List ℕ)) (calls : List Call) (taken : List Entry → List (List ℕ)) (said : List (List ℕ))
     → Stretch (EndsFor (IsCause (said ≡ texts) rest before now) old.host) old new calls taken said → Gives before.stream now.stream bytes → IsSplit LONGEST_SAID (reader.bytes ++ bytes) texts rest → texts ≡ said ++ unsaid
-    → (refused ≡ false → unsaid ≡ []) → (refused ≡ false → Keeps reader.bytes rest after.bytes) → IsOutHalf old new reader after before now refused
+    → (refused ≡ false → unsaid ≡ []) → (refused ≡ false → Keeps rest after.bytes) → IsOutHalf old new reader after before now refused
 out_half old new reader after before now refused bytes texts rest unsaid calls taken said s given split is all_said kept =
     let E : List (List ℕ) → Type 0 = λ x. EachOwn (EndsFor (IsCause (x ≡ texts) rest before now) old.host) (past_of old) s.more in
     record {
@@ -180,14 +183,15 @@ cause_of all_said r before now closed Exited a h = (a, h)
 
 -- a text was read, and the host says it
 pub says_out : (start old new : DeskState) (reader after : Unfinished) (before now : OutState) (t : List ℕ) (result : OutTurn) → MakesNone start old → IsRead reader after before now (Some (Text t)) → Says old new t result → IsOutTurn start new reader after before now result
+unfolding out_half
 says_out start old new reader after before now t out.Moved none read (a, h) =
     let one = none_then_one start old new (HostSaid t) a none h in
-    let K : List ℕ → Type 0 = Keeps reader.bytes [] in
+    let K : List ℕ → Type 0 = Keeps [] in
     record {
       half = out_half start new reader after before now false read.bytes (t ∷ []) [] [] (HostSaid t ∷ []) (λ past. text_taken past (HostSaid t) a) (t ∷ [])
           (stretch_own (EndsFor (IsCause (t ∷ [] ≡ t ∷ []) [] before now) start.host) start one.between new (HostSaid t) a one.others (ap (λ (d : DeskState). d.history) one.made) tt)
           read.given (split_one (reader.bytes ++ read.bytes) t read.came.0) refl (λ e. refl) (λ e. subst K (sym read.came.1) (all (short_under_way [] LONGEST_SAID (omega arith)).no_trouble));
-      came = (t, a, one);
+      came = ((t, a, one), refl);
     }
 says_out start old new reader after before now t out.Waits none read h = absurd h
 says_out start old new reader after before now t out.Ended none read h = absurd h
@@ -206,42 +210,51 @@ nothing = []
 abbrev pub NoneToSay : Type 0
 NoneToSay = nothing ≡ nothing
 
--- a cause, whatever others enter
+-- a cause, whatever others enter in a legal journal
 abbrev pub CauseStays : DeskState → List ℕ → OutState → OutState → Reason → Type 0
-CauseStays old r before now reason = (more : List Entry) → IsCause NoneToSay r before now (said_closed (more ++ past_of old) old.host) reason
+CauseStays old r before now reason = (world : WorldLists) (more : List Entry) → EachAfter (FollowsMachine world) (more ++ past_of old) → IsCause NoneToSay r before now (last_said_closed (more ++ past_of old) old.host) reason
 
-cause_at : (old new : DeskState) (r : List ℕ) (before now : OutState) (reason : Reason) (none : MakesNone old new) → CauseStays old r before now reason → IsCause NoneToSay r before now (said_closed (past_of new) new.host) reason
-cause_at old new r before now reason none cause =
-    let P : List Entry → Type 0 = λ past. IsCause NoneToSay r before now (said_closed past new.host) reason in
-    let H : HostNo → Type 0 = λ h. IsCause NoneToSay r before now (said_closed (entries_in none.others ++ past_of old) h) reason in
-    subst P (sym (past-others old new none)) (subst H (sym none.same_host) (cause (entries_in none.others)))
+cause_at : (old new : DeskState) (r : List ℕ) (before now : OutState) (reason : Reason) (none : MakesNone old new) → EachAfter (FollowsMachine new.world) (past_of new) → CauseStays old r before now reason → IsCause NoneToSay r before now (last_said_closed (past_of new) new.host) reason
+cause_at old new r before now reason none legal cause =
+    let E : List Entry → Type 0 = EachAfter (FollowsMachine new.world) in
+    let P : List Entry → Type 0 = λ past. IsCause NoneToSay r before now (last_said_closed past new.host) reason in
+    let H : HostNo → Type 0 = λ h. IsCause NoneToSay r before now (last_said_closed (entries_in none.others ++ past_of old) h) reason in
+    subst P (sym (past-others old new none)) (subst H (sym none.same_host) (cause new.world (entries_in none.others) (subst E (past-others old new none) legal)))
+
+-- a cause at the step by which a host ended stands behind it
+cause_behind : (old new : DeskState) (r : List ℕ) (before now : OutState) (reason : Reason) (a : Answer) (h : Ends old new reason a) → IsCause NoneToSay r before now (last_said_closed (past_of h.between) h.between.host) reason → IsCause NoneToSay r before now (last_said_closed (past_of new) new.host) reason
+cause_behind old new r before now reason a h cause =
+    let D : DeskState → Type 0 = λ d. IsCause NoneToSay r before now (last_said_closed (past_of d) d.host) reason in
+    subst D (sym h.made) cause
 
 -- no frame was read, there is a cause to end, and the host ends or waits
-ends_out : (start old new : DeskState) (reader after : Unfinished) (before now : OutState) (bytes : List ℕ) (reason : Reason) (result : OutTurn) → MakesNone start old → Gives before.stream now.stream bytes → HasNoFrame (reader.bytes ++ bytes) → Keeps reader.bytes (reader.bytes ++ bytes) after.bytes
-    → CauseStays old (reader.bytes ++ bytes) before now reason → EndsOrWaits old new reason result → IsOutTurn start new reader after before now result
+ends_out : (start old new : DeskState) (reader after : Unfinished) (before now : OutState) (bytes : List ℕ) (reason : Reason) (result : OutTurn) → MakesNone start old → Gives before.stream now.stream bytes → HasNoFrame (reader.bytes ++ bytes) → Keeps (reader.bytes ++ bytes) after.bytes
+    → CauseStays old (reader.bytes ++ bytes) before now reason → IsSound new → EndsOrWaits old new reason result → IsOutTurn start new reader after before now result
 unfolding out_half
-ends_out start old new reader after before now bytes reason out.Moved none given no_frame kept cause h = absurd h
-ends_out start old new reader after before now bytes reason out.Waits none given no_frame kept cause h =
+ends_out start old new reader after before now bytes reason out.Moved none given no_frame kept cause sound h = absurd h
+ends_out start old new reader after before now bytes reason out.Waits none given no_frame kept cause sound h =
     let finds = none_then_text start old new none h in
     let r : List ℕ = reader.bytes ++ bytes in
     let s = stretch_none (EndsFor (IsCause NoneToSay r before now) start.host) start new new finds.others refl in
-    let C : List (List ℕ) → Type 0 = λ x. IsCause (x ≡ []) r before now (said_closed (past_of new) new.host) reason in
+    let C : List (List ℕ) → Type 0 = λ x. IsCause (x ≡ []) r before now (last_said_closed (past_of new) new.host) reason in
     record {
       half = out_half start new reader after before now false bytes [] r [] [] (λ past. []) [] s given (split_none r no_frame) refl (λ e. refl) (λ e. kept);
-      came = (finds, (reason, subst C (sym s.said_are) (cause_at old new r before now reason h.others cause)));
+      came = (finds, (reason, subst C (sym s.said_are) (cause_at old new r before now reason h.others sound.legal cause)));
     }
-ends_out start old new reader after before now bytes reason out.Ended none given no_frame kept cause (a, h) =
+ends_out start old new reader after before now bytes reason out.Ended none given no_frame kept cause sound (a, h) =
     let ends = none_then_ends start old new reason a none h in
     let r : List ℕ = reader.bytes ++ bytes in
     let same : h.between.host ≡ start.host = h.others.same_host ∙ none.same_host in
-    let N : HostNo → Type 0 = λ g. (next_text (past_of h.between) g ≡ None) × IsCause NoneToSay r before now (said_closed (past_of h.between) g) reason in
+    let D : DeskState → Type 0 = IsSound in
+    let had = cause_at old h.between r before now reason h.others (subst D h.made sound).legal.0 cause in
+    let N : HostNo → Type 0 = λ g. (next_text (past_of h.between) g ≡ None) × IsCause NoneToSay r before now (last_said_closed (past_of h.between) g) reason in
+    let s = stretch_own (EndsFor (IsCause NoneToSay r before now) start.host) start h.between new (HostEnded reason) a (none_twice start old h.between none h.others) (ap (λ (d : DeskState). d.history) h.made) (subst N same (h.none_left, had)) in
+    let C : List (List ℕ) → Type 0 = λ x. IsCause (x ≡ []) r before now (last_said_closed (past_of new) new.host) reason in
     record {
-      half = out_half start new reader after before now false bytes [] r [] (HostEnded reason ∷ []) (λ past. text_taken past (HostEnded reason) a) []
-          (stretch_own (EndsFor (IsCause NoneToSay r before now) start.host) start h.between new (HostEnded reason) a (none_twice start old h.between none h.others) (ap (λ (d : DeskState). d.history) h.made) (subst N same (h.none_left, cause_at old h.between r before now reason h.others cause)))
-          given (split_none r no_frame) refl (λ e. refl) (λ e. kept);
-      came = (reason, a, ends);
+      half = out_half start new reader after before now false bytes [] r [] (HostEnded reason ∷ []) (λ past. text_taken past (HostEnded reason) a) [] s given (split_none r no_frame) refl (λ e. refl) (λ e. kept);
+      came = (reason, a, ends, subst C (sym s.said_are) (cause_behind old new r before now reason a h had));
     }
-ends_out start old new reader after before now bytes reason out.NoMemory none given no_frame kept cause h =
+ends_out start old new reader after before now bytes reason out.NoMemory none given no_frame kept cause sound h =
     let both = none_twice start old new none h in
     let r : List ℕ = reader.bytes ++ bytes in
     record {
@@ -250,18 +263,18 @@ ends_out start old new reader after before now bytes reason out.NoMemory none gi
     }
 
 -- reading came to an end
-pub ends_read : (start old new : DeskState) (reader after : Unfinished) (before now : OutState) (reason : Reason) (result : OutTurn) → MakesNone start old → IsRead reader after before now (Some (HasEnd reason)) → EndsOrWaits old new reason result → IsOutTurn start new reader after before now result
-ends_read start old new reader after before now reason result none read h =
+pub ends_read : (start old new : DeskState) (reader after : Unfinished) (before now : OutState) (reason : Reason) (result : OutTurn) → MakesNone start old → IsRead reader after before now (Some (HasEnd reason)) → IsSound new → EndsOrWaits old new reason result → IsOutTurn start new reader after before now result
+ends_read start old new reader after before now reason result none read sound h =
     let r : List ℕ = reader.bytes ++ read.bytes in
-    ends_out start old new reader after before now read.bytes reason result none read.given read.came.2 read.came.1 (λ more. cause_of NoneToSay r before now (said_closed (more ++ past_of old) old.host) reason refl read.came.0) h
+    ends_out start old new reader after before now read.bytes reason result none read.given read.came.2 read.came.1 (λ world more legal. cause_of NoneToSay r before now (last_said_closed (more ++ past_of old) old.host) reason refl read.came.0) sound h
 
 -- the channel was closed
-pub ends_closed : (start old new : DeskState) (reader : Unfinished) (output : OutState) (result : OutTurn) → MakesNone start old → said_closed (past_of old) old.host ≡ true → HasNoFrame reader.bytes → Keeps reader.bytes reader.bytes reader.bytes → EndsOrWaits old new Closed result
+pub ends_closed : (start old new : DeskState) (reader : Unfinished) (output : OutState) (result : OutTurn) → MakesNone start old → said_closed (past_of old) old.host ≡ true → HasNoFrame reader.bytes → Keeps reader.bytes reader.bytes → IsSound new → EndsOrWaits old new Closed result
     → IsOutTurn start new reader reader output output result
-ends_closed start old new reader output result none closed no_frame kept h =
+ends_closed start old new reader output result none closed no_frame kept sound h =
     let F : List ℕ → Type 0 = HasNoFrame in
-    let K : List ℕ → Type 0 = λ r. Keeps reader.bytes r reader.bytes in
-    ends_out start old new reader reader output output [] Closed result none (gives_nothing output.stream) (subst F (sym (append-nil reader.bytes)) no_frame) (subst K (sym (append-nil reader.bytes)) kept) (λ more. said_closed-more more (past_of old) old.host closed) h
+    let K : List ℕ → Type 0 = λ r. Keeps r reader.bytes in
+    ends_out start old new reader reader output output [] Closed result none (gives_nothing output.stream) (subst F (sym (append-nil reader.bytes)) no_frame) (subst K (sym (append-nil reader.bytes)) kept) (λ world more legal. last_closed world (more ++ past_of old) old.host legal (said_closed-more more (past_of old) old.host closed)) sound h
 
 pub is_closed_turn : (start old new : DeskState) (reader : Unfinished) (output : OutState) (result : OutTurn) → MakesNone start old → EndsOrWaits old new Closed result → IsClosedTurn start new reader reader output output result
 is_closed_turn start old new reader output out.Moved none h = absurd h
@@ -270,11 +283,11 @@ is_closed_turn start old new reader output out.Ended none (a, h) = record { same
 is_closed_turn start old new reader output out.NoMemory none h = record { same_reader = refl; nothing_read = refl; came = none_twice start old new none h }
 
 -- a host whose channel was closed is found so
-pub found_closed : (start old : DeskState) → MakesNone start old → said_closed (past_of start) start.host ≡ true → said_closed (past_of old) old.host ≡ true
+pub found_closed : (start old : DeskState) → MakesNone start old → last_said_closed (past_of start) start.host ≡ true → said_closed (past_of old) old.host ≡ true
 found_closed start old none is =
     let P : List Entry → Type 0 = λ past. said_closed past old.host ≡ true in
     let H : HostNo → Type 0 = λ h. said_closed (entries_in none.others ++ past_of start) h ≡ true in
-    subst P (sym (past-others start old none)) (subst H (sym none.same_host) (said_closed-more (entries_in none.others) (past_of start) start.host is))
+    subst P (sym (past-others start old none)) (subst H (sym none.same_host) (said_closed-more (entries_in none.others) (past_of start) start.host (said_at_last (past_of start) start.host is)))
 
 -- memory was refused while a frame was read
 pub refused_read : (start old : DeskState) (reader after : Unfinished) (before now : OutState) → MakesNone start old → IsRead reader after before now (Some NoMemory) → IsOutTurn start old reader after before now out.NoMemory

@@ -1,6 +1,6 @@
 -- The two halves of a host's record. Each is about one end of its pipe, and about the entries that were made at one desk
 -- in one call (Chrome's "Native messaging": each message is a text behind its length, in both directions).
-use Rattle.std.specs.Prelude.{◌≡◌, ℕ, Bool, true, false, ◌||◌, List, [], ◌∷◌, ◌++◌, take, cond, None, option_to_list}
+use Rattle.std.specs.Prelude.{◌≡◌, ℕ, Bool, true, false, ◌&&◌, ◌||◌, List, [], ◌∷◌, ◌++◌, take, cond, None, option_to_list}
 use Rattle.wx_id.specs.declared.numbers.HostNo.{HostNo}
 use Rattle.wx_native_frame.specs.Frames.{Unfinished, frame}
 use Rattle.wx_native_frame.specs.Splits.{frames, IsSplit}
@@ -14,7 +14,8 @@ use Rattle.wx_machine.specs.declared.entries.Entry.{Entry}
 use Rattle.wx_machine.specs.declared.entries.TheConstants.{LONGEST_SAID}
 use Rattle.wx_machine.specs.Answers.{is_host_ready}
 use Rattle.wx_machine.specs.Carried.{text_of}
-use Rattle.wx_machine.specs.Texts.{next_text, said_closed, is_host_end}
+use Rattle.wx_machine.specs.Hosts.{is_by_host}
+use Rattle.wx_machine.specs.Texts.{next_text, was_said_closed, is_host_end}
 use Rattle.wx_outside.specs.Causes.{Rose}
 use Rattle.wx_outside.specs.Sink.{added}
 use Rattle.wx_host_launch.specs.History.{Seen, calls_in, EachOwn}
@@ -89,20 +90,30 @@ abbrev pub texts_said : List Seen → List (List ℕ)
 texts_said [] = []
 texts_said (s ∷ more) = texts_said more ++ cond s.own (text_said s.entry.call) []
 
--- Why a host may end: its channel was closed when it said something, or every text that came was said and reading ended
--- so behind them.
+-- a host says something
+abbrev pub is_message : Call → Bool
+is_message (HostSaid text) = true
+is_message _ = false
+
+-- the last message of host h was answered that its channel is closed
+abbrev pub last_said_closed : List Entry → HostNo → Bool
+last_said_closed [] h = false
+last_said_closed (e ∷ past) h = cond (is_message e.call && is_by_host e.who h) (was_said_closed e.call e.answer) (last_said_closed past h)
+
+-- Why a host may end: its channel was closed when it last said something, or every text that came was said and reading
+-- ended so behind them.
 abbrev pub IsCause : Type 0 → List ℕ → OutState → OutState → Bool → Reason → Type 0
 IsCause all_said rest before now closed Closed = closed ≡ true
 IsCause all_said rest before now closed reason = all_said × IsReadingEnd rest before now reason
 
 -- a host ends when it has taken every text, and with a cause
 abbrev pub EndsFor : (Bool → Reason → Type 0) → HostNo → List Entry → Call → Type 0
-EndsFor cause h past (HostEnded reason) = (next_text past h ≡ None) × cause (said_closed past h) reason
+EndsFor cause h past (HostEnded reason) = (next_text past h ≡ None) × cause (last_said_closed past h) reason
 EndsFor cause h past _ = Unit {0}
 
 -- The bytes in hand at the start of a call and those read in it are some texts' frames and a rest. Those texts, in their
--- order, were said, and all of them unless memory was refused; then too the reader has the rest in hand, up to its first
--- trouble. Where the host ended it had a cause.
+-- order, were said, and all of them unless memory was refused; then too the reader has the rest in hand or, where that has
+-- trouble, the shortest front of it that has it. Where the host ended it had a cause.
 pub record IsOutHalf (old new : DeskState) (reader after : Unfinished) (before now : OutState) (refused : Bool) : Type 0 where
   pub more : List Seen
   pub seen : new.history ≡ more ++ old.history
@@ -114,5 +125,5 @@ pub record IsOutHalf (old new : DeskState) (reader after : Unfinished) (before n
   pub unsaid : List (List ℕ)
   pub said : texts ≡ texts_said more ++ unsaid
   pub all : refused ≡ false → unsaid ≡ []
-  pub kept : refused ≡ false → Keeps reader.bytes rest after.bytes
+  pub kept : refused ≡ false → Keeps rest after.bytes
   pub ends : EachOwn (EndsFor (IsCause (texts_said more ≡ texts) rest before now) old.host) (past_of old) more

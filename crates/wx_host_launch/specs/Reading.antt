@@ -1,6 +1,6 @@
 -- What reading from a child comes to. A frame's text has at most 1,048,576 bytes (Chrome's "Native messaging").
 use Rattle.std.specs.Prelude.{◌≡◌, ℕ, ◌+◌, ◌<◌, ◌≤◌, true, List, [], ◌++◌, length, take, Option, Some, None}
-use Rattle.wx_native_frame.specs.Frames.{Unfinished, told, IsFrame, IsTrouble, IsUnderWay}
+use Rattle.wx_native_frame.specs.Frames.{Unfinished, told, IsFrame, IsTrouble, IsTroubleFirst, IsUnderWay}
 use Rattle.wx_native_frame.specs.declared.FrameFault.{FrameFault}
 use Rattle.wx_native_frame.specs.declared.FrameFault.TheVariants as fault
 use Rattle.wx_machine.specs.declared.entries.Reason.{Reason}
@@ -14,10 +14,6 @@ use Rattle.wx_host_launch.specs.declared.reading.Heard.TheVariants.{Text, Ends, 
 -- nothing is wrong with the bytes
 abbrev pub HasNoTrouble : List ℕ → Type 0
 HasNoTrouble r = (f : FrameFault) → ¬ IsTrouble r LONGEST_SAID f
-
--- no shorter front of the bytes has trouble
-abbrev pub IsTroubleFirst : List ℕ → Type 0
-IsTroubleFirst r = (i : ℕ) (f : FrameFault) → i < length r → ¬ IsTrouble (take i r) LONGEST_SAID f
 
 -- the output has ended, and where it tells none of its bytes is still to come
 pub record HasEnded (output : OutState) : Type 0 where
@@ -36,10 +32,10 @@ IsReadingEnd r old new (Cut have) = HasEnded new × HasNoTrouble r × (length r 
 IsReadingEnd r old new Exited = HasEnded new × (r ≡ [])
 IsReadingEnd r old new Closed = ⊥
 
--- a reader keeps these bytes, or in trouble a front of them that has it, and no more than the first byte that brings it
-pub data Keeps (start r : List ℕ) : List ℕ → Type 0 where
-  all : HasNoTrouble r → Keeps start r r
-  to_trouble : {left : List ℕ} (f : FrameFault) (more : List ℕ) → r ≡ left ++ more → IsTrouble r LONGEST_SAID f → IsTrouble left LONGEST_SAID f → (IsTroubleFirst start → IsTroubleFirst left) → Keeps start r left
+-- a reader keeps these bytes, or in trouble the shortest front of them that has it
+pub data Keeps (r : List ℕ) : List ℕ → Type 0 where
+  all : HasNoTrouble r → Keeps r r
+  to_trouble : {left : List ℕ} (f : FrameFault) (more : List ℕ) → r ≡ left ++ more → IsTrouble r LONGEST_SAID f → IsTrouble left LONGEST_SAID f → IsTroubleFirst left LONGEST_SAID → Keeps r left
 
 -- what a reader's fault comes to
 abbrev pub heard_of : FrameFault → Heard
@@ -55,7 +51,7 @@ HasNoFrame r = (i : ℕ) (t : List ℕ) → ¬ IsFrame LONGEST_SAID (take i r) t
 abbrev pub Came : List ℕ → List ℕ → List ℕ → OutState → OutState → Option Heard → Type 0
 Came start r left old new None = IsUnderWay r LONGEST_SAID × (left ≡ r) × (length start < length r)
 Came start r left old new (Some (Text t)) = IsFrame LONGEST_SAID r t × (left ≡ [])
-Came start r left old new (Some (Ends reason)) = IsReadingEnd r old new reason × Keeps start r left × HasNoFrame r
+Came start r left old new (Some (Ends reason)) = IsReadingEnd r old new reason × Keeps r left × HasNoFrame r
 Came start r left old new (Some NoMemory) = HasNoFrame r
 
 -- The reader took some bytes of the output, and this is what came of it.

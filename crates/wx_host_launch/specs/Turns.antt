@@ -1,5 +1,5 @@
 -- What one turn of a host's two pumps does.
-use Rattle.std.specs.Prelude.{◌≡◌, ℕ, Bool, true, false, List}
+use Rattle.std.specs.Prelude.{◌≡◌, ℕ, Bool, true, false, List, []}
 use Rattle.wx_id.specs.declared.numbers.EntryNo.{EntryNo}
 use Rattle.wx_native_frame.specs.Frames.{Unfinished}
 use Rattle.wx_machine.specs.declared.entries.Call.TheVariants.{HostSaid, HostEnded}
@@ -7,14 +7,13 @@ use Rattle.wx_machine.specs.declared.entries.Reason.{Reason}
 use Rattle.wx_machine.specs.declared.entries.Reason.TheVariants.{WriteFailed, Closed}
 use Rattle.wx_machine.specs.declared.entries.Answer.{Answer}
 use Rattle.wx_machine.specs.declared.entries.Answer.TheVariants.{Text as HasText, End as NoMore}
-use Rattle.wx_machine.specs.Texts.{said_closed}
 use Rattle.wx_outside.specs.Causes.{Rose}
 use Rattle.wx_host_launch.specs.declared.turns.InTurn.{InTurn}
 use Rattle.wx_host_launch.specs.declared.turns.InTurn.TheVariants as into
 use Rattle.wx_host_launch.specs.declared.turns.OutTurn.{OutTurn}
 use Rattle.wx_host_launch.specs.declared.turns.OutTurn.TheVariants as out
 use Rattle.wx_host_launch.specs.Pipes.{InState, OutState}
-use Rattle.wx_host_launch.specs.Halves.{IsInHalf, IsOutHalf, IsCause, texts_said}
+use Rattle.wx_host_launch.specs.Halves.{IsInHalf, IsOutHalf, IsCause, texts_said, last_said_closed}
 use Rattle.wx_host_launch.specs.Steps.{DeskState, past_of, MakesNone, MakesOne, TakesNews, FindsNoNews, Ends, FindsText}
 
 abbrev pub is_refused_in : InTurn → Bool
@@ -52,18 +51,18 @@ pub record IsInTurn (old new : DeskState) (before now : InState) (result : InTur
   pub half : IsInHalf old new before now (is_refused_in result)
   pub came : ComesIn old new before now result
 
--- what a turn of the output came to: a text was said; the host has a cause to end, and there is a text to take; it ended;
--- or memory was refused, and no entry was made
-abbrev pub ComesOut : DeskState → DeskState → (Reason → Type 0) → OutTurn → Type 0
-ComesOut old new cause out.Moved = (text : List ℕ) × (answer : Answer) × MakesOne old new (HostSaid text) answer
-ComesOut old new cause out.Waits = FindsText old new × ((reason : Reason) × cause reason)
-ComesOut old new cause out.Ended = (reason : Reason) × (answer : Answer) × Ends old new reason answer
-ComesOut old new cause out.NoMemory = MakesNone old new
+-- what a turn of the output came to: a text was said, and nothing was left behind it; the host has a cause to end, and
+-- there is a text to take; it ended, with a cause; or memory was refused, and no entry was made
+abbrev pub ComesOut : DeskState → DeskState → List ℕ → (Reason → Type 0) → OutTurn → Type 0
+ComesOut old new rest cause out.Moved = ((text : List ℕ) × (answer : Answer) × MakesOne old new (HostSaid text) answer) × (rest ≡ [])
+ComesOut old new rest cause out.Waits = FindsText old new × ((reason : Reason) × cause reason)
+ComesOut old new rest cause out.Ended = (reason : Reason) × (answer : Answer) × Ends old new reason answer × cause reason
+ComesOut old new rest cause out.NoMemory = MakesNone old new
 
 -- One turn of the output.
 pub record IsOutTurn (old new : DeskState) (reader after : Unfinished) (before now : OutState) (result : OutTurn) : Type 0 where
   pub half : IsOutHalf old new reader after before now (is_refused_out result)
-  pub came : ComesOut old new (IsCause (texts_said half.more ≡ half.texts) half.rest before now (said_closed (past_of new) new.host)) result
+  pub came : ComesOut old new half.rest (IsCause (texts_said half.more ≡ half.texts) half.rest before now (last_said_closed (past_of new) new.host)) result
 
 -- what a step comes to by which a host says a text
 abbrev pub Says : DeskState → DeskState → List ℕ → OutTurn → Type 0
@@ -79,7 +78,8 @@ EndsOrWaits old new reason out.Waits = FindsText old new
 EndsOrWaits old new reason out.Ended = (answer : Answer) × Ends old new reason answer
 EndsOrWaits old new reason out.NoMemory = MakesNone old new
 
--- One turn of the output of a host whose channel was closed when it said something: it reads nothing, and ends for that.
+-- One turn of the output of a host whose channel was closed when it last said something: it reads nothing, and ends for
+-- that.
 pub record IsClosedTurn (old new : DeskState) (reader after : Unfinished) (before now : OutState) (result : OutTurn) : Type 0 where
   pub same_reader : after ≡ reader
   pub nothing_read : now ≡ before

@@ -1,9 +1,9 @@
 ghost use Rattle.std.specs.Prelude.{◌≡◌, ◌≤◌, true, length, Some};
 ghost use Rattle.wx_machine.specs.declared.entries.TheConstants.{LONGEST, LONGEST_SAID};
 ghost use Rattle.wx_machine.specs.Carried as carried;
-ghost use Rattle.wx_machine.specs.Texts as texts;
 ghost use Rattle.wx_machine.specs.declared.entries.Answer.TheVariants as Answer;
 ghost use Rattle.wx_host_launch.specs.Steps.{DeskState, IsSound, TakesNews, past_of};
+ghost use Rattle.wx_host_launch.specs.Halves.{last_said_closed};
 ghost use Rattle.wx_host_launch.specs.Turns.{IsInTurn, IsOutTurn, IsClosedTurn, Says, EndsOrWaits};
 
 use crate::desk::HostDesk;
@@ -128,7 +128,7 @@ pub fn out_turn<D: HostDesk, O: HostOut>(
     requires sound { IsSound (D.state desk.old) }
     requires limit { reader.old.limit ≡ LONGEST_SAID }
     ensures turn { IsOutTurn (D.state desk.old) (D.state desk.new) reader.old reader.new (O.state output.old) (O.state output.new) result }
-    ensures closed { texts.said_closed (past_of (D.state desk.old)) (D.state desk.old).host ≡ true →
+    ensures closed { last_said_closed (past_of (D.state desk.old)) (D.state desk.old).host ≡ true →
         IsClosedTurn (D.state desk.old) (D.state desk.new) reader.old reader.new (O.state output.old) (O.state output.new) result }
     ensures sound { IsSound (D.state desk.new) }
     ensures limit { reader.new.limit ≡ LONGEST_SAID }

@@ -9,3 +9,4 @@ pub mod Closings
 pub mod Taking
 pub mod Messages
 pub mod HostTexts
+pub mod Keeping

@@ -5,3 +5,4 @@ pub mod RefusalLaw
 pub mod SettlementLaw
 pub mod ClosingLaw
 pub mod PrefixLaw
+pub mod Keeping

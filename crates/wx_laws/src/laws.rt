@@ -5,6 +5,7 @@ ghost use Rattle.wx_laws.specs.RefusalLaw.{RefusesConnects, RefusesNativeConnect
 ghost use Rattle.wx_laws.specs.SettlementLaw.{AnswersOnce, TellsOneOutcome, TellsTheAsker};
 ghost use Rattle.wx_laws.specs.ClosingLaw.{TellsTheOtherSide, TellsNoMore, StaysPending, StaysBehindClosing};
 ghost use Rattle.wx_laws.specs.PrefixLaw.{TakesInOrder, TakesTextsInOrder, HostsTakeInOrder, HostsTakeTextsInOrder};
+ghost use Rattle.wx_laws.specs.Keeping.{LegalKeepsLaws};
 
 /// What stands before an entry of a legal journal is legal, so the laws hold at each of its entries.
 pub fn earlier_is_legal()
@@ -67,4 +68,9 @@ pub fn takes_in_order()
 pub fn hosts_take_in_order()
     ensures entries { HostsTakeInOrder }
     ensures texts { HostsTakeTextsInOrder }
+{}
+
+/// Every legal journal keeps the laws, each said by the places of its entries.
+pub fn keeps_laws()
+    ensures { LegalKeepsLaws }
 {}

@@ -7,7 +7,7 @@ use Rattle.std.proofs.lemmas.List.{append-nil, take_all, take_rest, length-take}
 use Rattle.wx_json.specs.Check.{Stands, taken}
 use Rattle.wx_json.specs.Text.{IsJsonText, IsPrefixOfJson, IsFault, IsEndFault}
 use Rattle.wx_json.specs.declared.JsonFault.{JsonFault}
-use Rattle.wx_native_frame.specs.Frames.{Unfinished, length_bytes, told, frame, IsTrouble, IsUnderWay, EndsFrame, StopsAt}
+use Rattle.wx_native_frame.specs.Frames.{Unfinished, length_bytes, told, frame, IsTrouble, IsTroubleFirst, IsUnderWay, EndsFrame, StopsAt}
 use Rattle.wx_native_frame.specs.Reader.{Reads, IsInside, IsSound, unfinished_of}
 use Rattle.wx_native_frame.specs.declared.FrameFault.{FrameFault}
 use Rattle.wx_native_frame.specs.declared.FrameFault.TheVariants.{BadJson}
@@ -15,7 +15,7 @@ use Rattle.wx_native_frame.specs.declared.frame_reader.FrameReader.TheInside.{In
 use Rattle.wx_native_frame.proofs.Empty.{empty_prefix}
 use Rattle.wx_native_frame.proofs.Lengths.{told-append}
 use Rattle.wx_native_frame.proofs.FrameLaws.{short_under_way, text_under_way}
-use Rattle.wx_native_frame.proofs.StepLaws.{GoesOn, ends_frame, text_ends, text_goes_on, text_stops, text_cut, head_stops, ends_behind, stops_behind}
+use Rattle.wx_native_frame.proofs.StepLaws.{GoesOn, under_way_first, stops_first, ends_frame, text_ends, text_goes_on, text_stops, text_cut, head_stops, ends_behind, stops_behind}
 
 some_of : (o : Option FrameFault) (T : FrameFault → Type 0) → ((f : FrameFault) → o ≡ Some f → T f) → is_some o ≡ true → (f : FrameFault) × T f
 some_of None T h e = cc
@@ -36,6 +36,14 @@ under_way_of a s e = elim (cases_lt (length a.head) 4) [
   | inl lt ↦ let none = (s.early lt).text in short_under_way (a.head ++ a.text.items) a.limit (omega (arith, length-append a.head a.text.items, ap length none))
   | inr le ↦ let most = s.head in let four : length a.head ≡ 4 = omega arith in let i = s.inside four (none_of a.fault e) in text_under_way a.limit a.head a.text.items s.limit four i.short i.within i.reads.start
 ]
+
+-- no shorter front of a reader's bytes has trouble
+pub first_of : (a : Inside) → IsSound a → IsTroubleFirst (a.head ++ a.text.items) a.limit
+first_of a s = by_fault a.fault refl
+  where
+    by_fault : (o : Option FrameFault) → a.fault ≡ o → IsTroubleFirst (a.head ++ a.text.items) a.limit
+    by_fault None e = under_way_first (a.head ++ a.text.items) a.limit (under_way_of a s (ap is_some e))
+    by_fault (Some f) e = s.first f e
 
 pub wanted_of : (a : Inside) → IsSound a → is_some a.fault ≡ false → 4 ≤ length a.head → (told a.head - length a.text.items) + length (a.head ++ a.text.items) ≡ 4 + told (a.head ++ a.text.items)
 wanted_of a s e le =
@@ -91,13 +99,14 @@ reads_cut a piece x y used f s i four is e le good h same =
     subst S (sym (same ∙ e)) (text_cut a.limit a.head a.text.items piece used f s.limit four i.within w.1 (sym (ap length e) ∙ w.0) (subst P e good) (subst F e h))
 
 -- a reader that has stopped
-pub stopped : (b : Inside) (f : FrameFault) → b.limit < 2 ^ 32 → length b.head ≡ 4 → b.fault ≡ Some f → IsTrouble (b.head ++ b.text.items) b.limit f → IsSound b
-stopped b f small four is h = record {
-  limit = small;
+pub stopped : (a b : Inside) (piece : List ℕ) (f : FrameFault) → IsSound a → b.limit ≡ a.limit → length b.head ≡ 4 → b.fault ≡ Some f → StopsAt b.limit (a.head ++ a.text.items) piece f (b.head ++ b.text.items) → IsSound b
+stopped a b piece f s same four is h = record {
+  limit = let small = s.limit in omega arith;
   head = omega arith;
   early = λ lt. absurd (omega arith);
   inside = λ e none. cc;
-  broken = λ g e. same_trouble (b.head ++ b.text.items) b.limit f g (sym is ∙ e) h;
+  broken = λ g e. same_trouble (b.head ++ b.text.items) b.limit f g (sym is ∙ e) h.kept;
+  first = λ g e. let L : ℕ → Type 0 = IsTroubleFirst (a.head ++ a.text.items) in stops_first b.limit (a.head ++ a.text.items) piece (b.head ++ b.text.items) f h (subst L (sym same) (first_of a s));
 }
 
 -- Within a length
@@ -140,6 +149,7 @@ fresh b small four none within some empty room stands count = record {
     reads = let R : List ℕ → Type 0 = λ x. Reads b.check x in subst R (sym empty) (record { stands = stands; count = omega arith; start = empty_prefix });
   };
   broken = λ f e. cc;
+  first = λ f e. cc;
 }
 
 -- what a step did behind the length is what it did in all

@@ -1,14 +1,14 @@
 -- What a step may answer.
-use Rattle.std.proofs.Common.{◌≡◌, ℕ, ◌+◌, ◌-◌, ◌<◌, ◌≤◌, ◌^◌, List, ◌++◌, length, take, drop, min, refl, ap, ◌∙◌, sym, subst, arith, inl, inr, append_assoc, length-append, length-drop}
+use Rattle.std.proofs.Common.{◌≡◌, ℕ, ◌+◌, ◌-◌, ◌<◌, ◌≤◌, ◌^◌, List, ◌++◌, length, take, drop, min, refl, ap, ◌∙◌, sym, subst, arith, inl, inr, append_assoc, length-append, length-drop, take-append-drop}
 use Rattle.std.specs.Prelude.{◌⊎◌}
-use Rattle.std.proofs.lemmas.List.{take-take, take_all, length-take, append-nil}
+use Rattle.std.proofs.lemmas.List.{take-append-le, take-take, take_all, length-take, append-nil}
 use Rattle.std.proofs.Math.Seq.{take-append-add}
 use Rattle.std.proofs.lemmas.Bool.{cases_lt}
 use Rattle.wx_json.specs.Text.{IsJsonText, IsPrefixOfJson, IsFault, IsUnfinished, IsFaultOrEnd, IsEndFault}
 use Rattle.wx_json.specs.declared.JsonFault.{JsonFault}
 use Rattle.wx_json.specs.declared.JsonKind.{JsonKind}
 use Rattle.wx_json.specs.declared.JsonKind.TheVariants.{Syntax, Utf8, TooDeep, Ends}
-use Rattle.wx_native_frame.specs.Frames.{frame, IsFrame, length_bytes, told, text_in, IsTrouble, IsUnderWay, EndsFrame, StopsAt}
+use Rattle.wx_native_frame.specs.Frames.{frame, IsFrame, length_bytes, told, text_in, IsTrouble, IsTroubleFirst, IsUnderWay, EndsFrame, StopsAt}
 use Rattle.wx_native_frame.specs.Frames.{bad_text, cut_text}
 use Rattle.wx_native_frame.specs.declared.FrameFault.{FrameFault}
 use Rattle.wx_native_frame.specs.declared.FrameFault.TheVariants.{BadJson, NoMemory}
@@ -63,6 +63,33 @@ stops_already limit bytes piece f h = stops_at limit bytes piece bytes 0 f (sym 
 
 pub stops_not_for_memory : (limit : ℕ) (bytes piece left : List ℕ) → ¬ StopsAt limit bytes piece NoMemory left
 stops_not_for_memory limit bytes piece left h = no_memory_no_trouble left limit h.kept
+
+-- bytes under way have no trouble, nor has any front of them
+pub under_way_first : (r : List ℕ) (limit : ℕ) → IsUnderWay r limit → IsTroubleFirst r limit
+under_way_first r limit u i f lt h =
+    let P : List ℕ → Type 0 = λ x. IsTrouble x limit f in
+    u.no_trouble f (subst P (take-append-drop i r) (trouble-append (take i r) (drop i r) limit f h))
+
+-- where no shorter front of the bytes in hand has trouble, none of what is left has
+pub stops_first : (limit : ℕ) (bytes piece left : List ℕ) (f : FrameFault) → StopsAt limit bytes piece f left → IsTroubleFirst bytes limit → IsTroubleFirst left limit
+stops_first limit bytes piece left f h first i g lt t = elim (cases_lt i (length bytes)) [
+  | inl less ↦ first i g less (T (ap (take i) h.left_is ∙ take-append-le i bytes (take h.upto piece) (omega arith)) t)
+  | inr le ↦ h.least (i - length bytes) g (omega (arith, long)) (T (behind le) t)
+]
+  where
+    T : {x y : List ℕ} → x ≡ y → IsTrouble x limit g → IsTrouble y limit g
+    T e = let P : List ℕ → Type 0 = λ x. IsTrouble x limit g in subst P e
+
+    long : length left ≡ length bytes + min h.upto (length piece)
+    long = ap length h.left_is ∙ length-append bytes (take h.upto piece) ∙ ap (λ n. length bytes + n) (length-take h.upto piece)
+
+    behind : length bytes ≤ i → take i left ≡ bytes ++ take (i - length bytes) piece
+    behind le =
+        let at : i ≡ length bytes + (i - length bytes) = omega arith in
+        ap (take i) h.left_is ∙ ap (λ n. take n (bytes ++ take h.upto piece)) at ∙ take-append-add bytes (take h.upto piece) (i - length bytes) ∙ ap (λ x. bytes ++ x) (shorter (omega (arith, long)))
+      where
+        shorter : i - length bytes ≤ h.upto → take (i - length bytes) (take h.upto piece) ≡ take (i - length bytes) piece
+        shorter less = take-take (i - length bytes) h.upto piece less
 
 -- a front of the text so far
 front_is : (u piece : List ℕ) (used i : ℕ) → i ≤ used → take (length u + i) (u ++ take used piece) ≡ u ++ take i piece

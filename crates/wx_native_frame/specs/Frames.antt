@@ -39,6 +39,10 @@ pub record IsUnderWay (r : List ℕ) (limit : ℕ) : Type 0 where
   pub no_trouble : (f : FrameFault) → ¬ IsTrouble r limit f
   pub no_frame : (i : ℕ) (t : List ℕ) → ¬ IsFrame limit (take i r) t
 
+-- no shorter front of the bytes has trouble
+abbrev pub IsTroubleFirst : List ℕ → ℕ → Type 0
+IsTroubleFirst r limit = (i : ℕ) (f : FrameFault) → i < length r → ¬ IsTrouble (take i r) limit f
+
 -- With so many bytes of the piece, and with no fewer, the bytes in hand are the frame of this text.
 pub record EndsFrame (limit : ℕ) (bytes piece : List ℕ) (used : ℕ) (t : List ℕ) : Type 0 where
   pub inside : used ≤ length piece

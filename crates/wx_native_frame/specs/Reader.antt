@@ -3,7 +3,7 @@ use Rattle.std.specs.Prelude.{◌≡◌, ℕ, ◌^◌, ◌<◌, ◌≤◌, List,
 use Rattle.std.specs.Vec.{vec_capacity}
 use Rattle.wx_json.specs.Check.{Progress, Stands, taken}
 use Rattle.wx_json.specs.Text.{IsPrefixOfJson}
-use Rattle.wx_native_frame.specs.Frames.{Unfinished, IsTrouble, told}
+use Rattle.wx_native_frame.specs.Frames.{Unfinished, IsTrouble, IsTroubleFirst, told}
 use Rattle.wx_native_frame.specs.declared.FrameFault.{FrameFault}
 use Rattle.wx_native_frame.specs.declared.frame_reader.FrameReader.TheInside.{Inside}
 
@@ -34,3 +34,4 @@ pub record IsSound (a : Inside) : Type 0 where
   pub early : length a.head < 4 → IsEarly a
   pub inside : length a.head ≡ 4 → a.fault ≡ None → IsInside a
   pub broken : (f : FrameFault) → a.fault ≡ Some f → IsTrouble (a.head ++ a.text.items) a.limit f
+  pub first : (f : FrameFault) → a.fault ≡ Some f → IsTroubleFirst (a.head ++ a.text.items) a.limit

@@ -1,5 +1,5 @@
 ghost use Rattle.std.specs.Prelude.{◌≡◌, ℕ, ◌+◌, ◌<◌, ◌≤◌, ◌^◌, List, [], ◌++◌, length, take, OnOk, IfErr, IfOk, IfSome, IfNone, MatchOption, MatchResult};
-ghost use Rattle.wx_native_frame.specs.Frames.{told, frame, IsTrouble, IsUnderWay, EndsFrame, StopsAt};
+ghost use Rattle.wx_native_frame.specs.Frames.{told, frame, IsTrouble, IsTroubleFirst, IsUnderWay, EndsFrame, StopsAt};
 ghost use Rattle.wx_native_frame.specs.declared.FrameFault.{FrameFault};
 
 use crate::head::Head;
@@ -74,6 +74,7 @@ impl FrameReader {
         ensures fault { (f : FrameFault) → IsTrouble self.now.bytes self.now.limit f → result ≡ 0 }
         ensures zero { result ≡ 0 → (f : FrameFault) × IsTrouble self.now.bytes self.now.limit f }
         ensures under_way { 0 < result → IsUnderWay self.now.bytes self.now.limit }
+        ensures first { IsTroubleFirst self.now.bytes self.now.limit }
     {
         if self.fault.is_some() {
             return 0;

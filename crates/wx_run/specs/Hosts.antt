@@ -1,13 +1,16 @@
--- What becomes of native hosts in a round: none can be started yet, so each ends in the round in which it was called. Every list of entries has the newest first.
-use Rattle.std.specs.Prelude.{◌≡◌, ℕ, zero, suc, ◌+◌, ◌<◌, length, List, [], ◌∷◌, Bool, true, ◌&&◌, not, cond, nat_le, if◌then◌else◌, Option, Some, None}
+-- What native hosts do in a run. Every list of entries has the newest first.
+use Rattle.std.specs.Prelude.{◌≡◌, ℕ, zero, suc, ◌+◌, ◌<◌, ◌≤◌, length, List, [], ◌∷◌, ◌++◌, Bool, true, false, ◌&&◌, not, nat_le, if◌then◌else◌, Option, Some, None}
 use Rattle.wx_id.specs.declared.numbers.HostNo.{HostNo}
-use Rattle.wx_machine.specs.declared.entries.Who.TheVariants.{Host as ByHost}
-use Rattle.wx_machine.specs.declared.entries.Call.TheVariants.{HostEnded}
-use Rattle.wx_machine.specs.declared.entries.Reason.TheVariants.{StartFailed}
+use Rattle.wx_external.specs.World.{WorldLists}
 use Rattle.wx_machine.specs.declared.entries.Entry.{Entry}
-use Rattle.wx_machine.specs.Hosts.{hosts, is_by_host}
+use Rattle.wx_machine.specs.Answers.{is_host_ready}
+use Rattle.wx_machine.specs.Hosts.{hosts}
 use Rattle.wx_machine.specs.Texts.{has_ended}
-use Rattle.wx_script.specs.Ends.{entry_limit}
+use Rattle.wx_host_launch.specs.Records.{HostRecord, Writing, StarterState}
+use Rattle.wx_host_slot.specs.Journals.{entries_of}
+use Rattle.wx_host_slot.specs.Meets.{Meets}
+use Rattle.wx_host_slot.specs.Slots.{host_limit}
+use Rattle.wx_host_slot.specs.Turns.{HostTurn}
 
 abbrev pub host_numbered : ℕ → HostNo
 host_numbered n = record { 0 = n }
@@ -16,36 +19,28 @@ host_numbered n = record { 0 = n }
 abbrev pub HaveEndedBelow : ℕ → List Entry → Type 0
 HaveEndedBelow n past = (h : HostNo) → h.0 < n → has_ended past h ≡ true
 
--- each host that was started has ended
+-- each host has ended
 abbrev pub HaveEnded : List Entry → Type 0
 HaveEnded past = HaveEndedBelow (length (hosts past)) past
 
--- host h ended by one entry, since it could not be started
-pub record EndedOne (h : HostNo) (before after : List Entry) : Type 0 where
-  pub entry : Entry
-  pub own : entry.who ≡ ByHost h
-  pub called : entry.call ≡ HostEnded StartFailed
-  pub made : after ≡ entry ∷ before
+-- host h is the first that has not ended
+pub record IsFirstUnended (past : List Entry) (h : HostNo) : Type 0 where
+  pub is_host : h.0 < length (hosts past)
+  pub unended : has_ended past h ≡ false
+  pub first : HaveEndedBelow h.0 past
 
--- so many hosts, numbered from n, ended one after another
-abbrev pub HostsEnd : ℕ → ℕ → List Entry → List Entry → Type 0
-HostsEnd zero n before after = after ≡ before
-HostsEnd (suc count) n before after = (between : List Entry) × HostsEnd count n before between × EndedOne (host_numbered (n + count)) between after
+-- no host has anything new to take
+abbrev pub NoneReady : List Entry → Type 0
+NoneReady past = (h : HostNo) → h.0 < length (hosts past) → is_host_ready past h ≡ false
 
--- Each host numbered from n ended, in rising number.
-pub record HostTurns (n : ℕ) (before after : List Entry) : Type 0 where
-  pub count : ℕ
-  pub all : n + count ≡ length (hosts before)
-  pub ends : HostsEnd count n before after
-
--- how many entries host h made
-abbrev pub entries_of : HostNo → List Entry → ℕ
-entries_of h [] = 0
-entries_of h (e ∷ past) = cond (is_by_host e.who h) 1 0 + entries_of h past
+-- the turns of so many hosts, numbered from 0, in rising number
+abbrev pub HostTurns : ℕ → List Entry → List Entry → Type 0
+HostTurns zero before after = after ≡ before
+HostTurns (suc n) before after = (between : List Entry) × HostTurns n before between × HostTurn (host_numbered n) between after
 
 -- host h has made as many entries as it may, and has not ended
 abbrev pub is_host_spent : List Entry → HostNo → Bool
-is_host_spent past h = nat_le entry_limit (entries_of h past) && not (has_ended past h)
+is_host_spent past h = nat_le host_limit (entries_of h past) && not (has_ended past h)
 
 -- the first of so many hosts, numbered from n, that is spent
 abbrev pub spent_host_from : ℕ → ℕ → List Entry → Option HostNo
@@ -55,3 +50,19 @@ spent_host_from (suc count) n past = if is_host_spent past (host_numbered n) the
 -- the first host that is spent
 abbrev pub spent_host : List Entry → Option HostNo
 spent_host past = spent_host_from (length (hosts past)) 0 past
+
+-- no host made more entries than it may: the last turn of each pump may go beyond the limit
+abbrev pub AreHostsWithin : List Entry → Type 0
+AreHostsWithin past = (h : HostNo) → entries_of h past ≤ host_limit + 2
+
+-- each of these records, of hosts numbered from n, meets the journal
+abbrev pub RecordsMeet : Type 0 → Option Writing → WorldLists → List Entry → ℕ → List HostRecord → Type 0
+RecordsMeet spent writing world past n [] = Unit {0}
+RecordsMeet spent writing world past n (r ∷ records) = Meets spent writing world past (host_numbered n) r × RecordsMeet spent writing world past (n + 1) records
+
+-- The starter took over one record for each host of the journal, in rising number, and each meets the journal.
+pub record HaveRecords (spent : Type 0) (world : WorldLists) (past : List Entry) (old new : StarterState) : Type 0 where
+  pub more : List HostRecord
+  pub taken_over : new.records ≡ old.records ++ more
+  pub one_each : length more ≡ length (hosts past)
+  pub meet : RecordsMeet spent old.writing world past 0 more

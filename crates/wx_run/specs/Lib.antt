@@ -3,6 +3,8 @@ pub mod Rounds
 pub mod Run
 pub mod Cursors
 pub mod Hosts
+pub mod Slots
+pub mod Serving
 pub mod Step
 pub mod Round
 pub mod Opened

@@ -1,13 +1,15 @@
 -- The order in which endpoints and hosts make their entries. Every list of entries here has the newest first.
-use Rattle.std.specs.Prelude.{◌≡◌, ℕ, zero, suc, ◌+◌, ◌⊎◌, length, List, [], ◌∷◌, take, true, is_some}
+use Rattle.std.specs.Prelude.{◌≡◌, ℕ, zero, suc, ◌+◌, ◌≤◌, ◌⊎◌, length, List, [], ◌∷◌, take, true, Some}
 use Rattle.wx_id.specs.declared.numbers.ContextNo.{ContextNo}
+use Rattle.wx_id.specs.declared.numbers.HostNo.{HostNo}
 use Rattle.wx_machine.specs.declared.entries.Who.TheVariants.{Context as ByContext}
 use Rattle.wx_machine.specs.declared.entries.Entry.{Entry}
+use Rattle.wx_machine.specs.Hosts.{hosts}
 use Rattle.wx_script.specs.declared.script.Command.{Command}
 use Rattle.wx_script.specs.Places.{next_of}
 use Rattle.wx_script.specs.Ends.{is_idle, AreIdle, spent_of}
-use Rattle.wx_machine.specs.Hosts.{hosts}
-use Rattle.wx_run.specs.Hosts.{HostTurns}
+use Rattle.wx_host_slot.specs.Turns.{SaysOrEnds}
+use Rattle.wx_run.specs.Hosts.{HaveEnded, IsFirstUnended, NoneReady, HostTurns, spent_host}
 
 -- context c made one entry
 pub record MadeOne (c : ContextNo) (before after : List Entry) : Type 0 where
@@ -29,24 +31,33 @@ abbrev pub Turns : List (List Command) → ℕ → List Entry → List Entry →
 Turns [] n before after = after ≡ before
 Turns (script ∷ scripts) n before after = (between : List Entry) × Turn script (record { 0 = n }) before between × Turns scripts (n + 1) between after
 
--- No endpoint can do anything.
+-- A round: the turns of all endpoints and then of all hosts, in which someone made an entry; or, where nobody could make one,
+-- the first host that has not ended said a text, or ended.
+pub data Round (scripts : List (List Command)) (before after : List Entry) : Type 0 where
+  of_all : (between : List Entry) → Turns scripts 0 before between → HostTurns (length (hosts between)) between after → (after ≡ before → ⊥) → Round scripts before after
+  of_first_host : AreIdle scripts before → NoneReady before → (h : HostNo) → IsFirstUnended before h → SaysOrEnds h before after → Round scripts before after
+
+-- No endpoint can do anything, and every host has ended.
 pub record IsOver (scripts : List (List Command)) (before after : List Entry) : Type 0 where
   pub idle : AreIdle scripts after
+  pub ended : HaveEnded after
   pub same : after ≡ before
 
--- An endpoint is spent, and the turns of the first endpoints alone were made.
+-- an endpoint or a host is spent
+abbrev pub IsSpent : List (List Command) → List Entry → Type 0
+IsSpent scripts past = ((n : ℕ) × (spent_of scripts past ≡ Some n)) ⊎ ((h : HostNo) × (spent_host past ≡ Some h))
+
+-- the first turns of a round: those of the first endpoints, or of all of them and of the first hosts
+pub data FirstTurns (scripts : List (List Command)) (before after : List Entry) : Type 0 where
+  of_endpoints : (count : ℕ) → Turns (take count scripts) 0 before after → FirstTurns scripts before after
+  of_hosts : (between : List Entry) (count : ℕ) → Turns scripts 0 before between → count ≤ length (hosts between) → HostTurns count between after → FirstTurns scripts before after
+
+-- Someone is spent, and the first turns of a round alone were made.
 pub record IsCutShort (scripts : List (List Command)) (before after : List Entry) : Type 0 where
-  pub spent : is_some (spent_of scripts after) ≡ true
-  pub count : ℕ
-  pub turns : Turns (take count scripts) 0 before after
+  pub spent : IsSpent scripts after
+  pub turns : FirstTurns scripts before after
 
--- A whole round: every endpoint has made its turn, and then each host that was started in it ended.
-pub record IsWhole (scripts : List (List Command)) (before after : List Entry) : Type 0 where
-  pub between : List Entry
-  pub turns : Turns scripts 0 before between
-  pub host_turns : HostTurns (length (hosts before)) between after
-
--- so many whole rounds; then no endpoint can do anything, or one is spent and the last round is cut short
+-- so many rounds; then nobody can do anything, or someone is spent and the last round is cut short
 abbrev pub Rounds : ℕ → List (List Command) → List Entry → List Entry → Type 0
 Rounds zero scripts before after = IsOver scripts before after ⊎ IsCutShort scripts before after
-Rounds (suc n) scripts before after = (between : List Entry) × IsWhole scripts before between × Rounds n scripts between after
+Rounds (suc n) scripts before after = (between : List Entry) × Round scripts before between × Rounds n scripts between after

@@ -13,7 +13,7 @@ use Rattle.wx_run.specs.declared.outcome.RunEnd.TheVariants.{Done, Stalled, Spen
 use Rattle.wx_script.specs.declared.scene.SpentWho.TheVariants.{Endpoint, Host}
 use Rattle.wx_run.specs.Opening.{opening}
 use Rattle.wx_run.specs.Rounds.{Rounds}
-use Rattle.wx_run.specs.Hosts.{HaveEnded, spent_host}
+use Rattle.wx_run.specs.Hosts.{HaveEnded, spent_host, AreHostsWithin}
 
 -- the journal begins with these entries
 abbrev pub BeginsWith : List Entry → List Entry → Type 0
@@ -39,5 +39,7 @@ pub record IsRunOf (world : WorldLists) (scene : SceneValue) (journal : List Ent
   pub in_rounds : Rounds count (scripts_of scene) (reverse (opening scene)) (reverse journal)
   -- no endpoint makes more entries than it may
   pub within_limit : (c : ContextNo) → entries_by c (reverse journal) ≤ entry_limit
+  -- nor does a host
+  pub hosts_within_limit : AreHostsWithin (reverse journal)
   -- and it ends so
   pub ended : EndsBy (scripts_of scene) (reverse journal) end

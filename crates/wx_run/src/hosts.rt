@@ -1,24 +1,82 @@
-ghost use Rattle.std.specs.Prelude.{◌≡◌, ◌≤◌, IfOk, OnOk, length, reverse};
+ghost use Rattle.std.specs.Prelude.{◌≡◌, ◌+◌, ◌-◌, ◌*◌, ◌<◌, ◌≤◌, ◌++◌, length, map, reverse, None, IfOk, OnOk};
 ghost use Rattle.wx_machine.specs.Answers.{IsLegal};
 ghost use Rattle.wx_machine.specs.Hosts.{hosts};
-ghost use Rattle.wx_run.specs.Hosts.{HostTurns};
+ghost use Rattle.wx_host_launch.specs.Records.{Writing};
+ghost use Rattle.wx_host_slot.specs.Slots.{closing_record, host_limit};
+ghost use Rattle.wx_run.specs.Hosts.{NoneReady};
+ghost use Rattle.wx_run.specs.Serving.{HostsServed, FirstHeard};
+ghost use Rattle.wx_run.specs.Slots.{HostsStand, AllWereStarted, first_spent_slot, all_turns_left, keeping};
 
-use wx_endpoint::BrokerDesk;
+use crate::rounds::Rounded;
+use std::alloc::Global;
+use wx_broker::Broker;
+use wx_host_launch::Starter;
+use wx_host_slot::HostSlot;
 use wx_id::{HostNo, NoMemory};
-use wx_machine::Reason;
 
-/// Ends each host numbered from `first`, as none can be started yet: how many hosts there are.
-pub fn end_hosts(desk: &mut BrokerDesk, first: u64) -> Result<u64, NoMemory>
-    requires legal { IsLegal desk.old.broker.world desk.old.broker.entries }
-    requires started { first ≤ length (hosts (reverse desk.old.broker.entries)) }
-    ensures turns { OnOk result (HostTurns first (reverse desk.old.broker.entries) (reverse desk.new.broker.entries)) }
-    ensures legal { OnOk result (IsLegal desk.old.broker.world desk.new.broker.entries) }
-    ensures count { IfOk result (λ count. count ≡ length (hosts (reverse desk.new.broker.entries))) }
-    ensures same_world { OnOk result (desk.new.broker.world ≡ desk.old.broker.world) }
+/// Gives a slot to each host that has none.
+pub fn add_slots<P: Starter>(
+    broker: &Broker,
+    slots: &mut Vec<HostSlot<P>>,
+    starter: &mut P,
+) -> Result<(), NoMemory>
+    requires { HostsStand (P.state starter.old).writing broker.now.world (reverse broker.now.entries) slots.old.items }
+    ensures stand { OnOk result (HostsStand (P.state starter.old).writing broker.now.world (reverse broker.now.entries) slots.new.items) }
+    ensures all { OnOk result (length slots.new.items ≡ length (hosts (reverse broker.now.entries))) }
+    ensures unspent { OnOk result (first_spent_slot 0 slots.old.items ≡ None → first_spent_slot 0 slots.new.items ≡ None) }
+    ensures left { OnOk result (all_turns_left slots.new.items ≡ all_turns_left slots.old.items + (host_limit + 4) * (length slots.new.items - length slots.old.items)) }
+    ensures kept { OnOk result (P.state starter.new ≡ keeping (length slots.new.items - length slots.old.items) (P.state starter.old)) }
 {
-    let count = desk.broker.hosts();
-    for h in first..count {
-        desk.broker.host_ended(HostNo(h), Reason::StartFailed)?;
+    Err(NoMemory)
+}
+
+/// The turns of all hosts behind those of the endpoints, in rising number, until one is spent.
+pub fn serve_hosts<P: Starter>(
+    alloc: Global,
+    broker: &mut Broker,
+    slots: &mut Vec<HostSlot<P>>,
+) -> Result<Rounded, NoMemory>
+    requires legal { IsLegal broker.old.world broker.old.entries }
+    requires stand { (writing : Option Writing) × HostsStand writing broker.old.world (reverse broker.old.entries) slots.old.items }
+    requires all { length slots.old.items ≡ length (hosts (reverse broker.old.entries)) }
+    requires unspent { first_spent_slot 0 slots.old.items ≡ None }
+    ensures stand { (writing : Option Writing) → HostsStand writing broker.old.world (reverse broker.old.entries) slots.old.items
+        → OnOk result (HostsStand writing broker.old.world (reverse broker.new.entries) slots.new.items) }
+    ensures served { IfOk result (HostsServed (reverse broker.old.entries) (reverse broker.new.entries) slots.old.items slots.new.items) }
+    ensures same_size { length slots.new.items ≡ length slots.old.items }
+    ensures legal { OnOk result (IsLegal broker.old.world broker.new.entries) }
+    ensures same_world { OnOk result (broker.new.world ≡ broker.old.world) }
+{
+    Err(NoMemory)
+}
+
+/// The turn of the first host that has not ended, where nobody else can do anything; no turn where there is none.
+pub fn hear_first<P: Starter>(
+    broker: &mut Broker,
+    slots: &mut Vec<HostSlot<P>>,
+) -> Result<Rounded, NoMemory>
+    requires legal { IsLegal broker.old.world broker.old.entries }
+    requires stand { (writing : Option Writing) × HostsStand writing broker.old.world (reverse broker.old.entries) slots.old.items }
+    requires all { length slots.old.items ≡ length (hosts (reverse broker.old.entries)) }
+    requires unspent { first_spent_slot 0 slots.old.items ≡ None }
+    requires started { AllWereStarted slots.old.items }
+    requires none_ready { NoneReady (reverse broker.old.entries) }
+    ensures stand { (writing : Option Writing) → HostsStand writing broker.old.world (reverse broker.old.entries) slots.old.items
+        → OnOk result (HostsStand writing broker.old.world (reverse broker.new.entries) slots.new.items) }
+    ensures heard { IfOk result (FirstHeard (reverse broker.old.entries) (reverse broker.new.entries) slots.old.items slots.new.items) }
+    ensures same_size { length slots.new.items ≡ length slots.old.items }
+    ensures legal { OnOk result (IsLegal broker.old.world broker.new.entries) }
+    ensures same_world { OnOk result (broker.new.world ≡ broker.old.world) }
+{
+    Err(NoMemory)
+}
+
+/// Finishes each started child, and hands the hosts' records over, in rising number.
+pub fn finish_hosts<P: Starter>(slots: Vec<HostSlot<P>>, starter: &mut P)
+    requires { length slots.items ≤ (P.state starter.old).places }
+    ensures { (P.state starter.new).records ≡ (P.state starter.old).records ++ map closing_record slots.items }
+{
+    for slot in slots {
+        starter.absorb(slot.finish());
     }
-    Ok(count)
 }

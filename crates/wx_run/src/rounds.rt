@@ -13,12 +13,12 @@ use wx_script::SpentWho;
 /// What a round came to.
 #[derive(Clone, Copy, Debug, PartialEq, Eq)]
 pub enum Rounded {
-    /// Every endpoint made its turn, with some entry among them, and none is spent.
+    /// Some turn did something, and nobody is spent.
     Moved,
-    /// No endpoint can do anything.
+    /// Nobody could do anything.
     Idle,
-    /// This endpoint is spent, and the round was cut short behind its turn.
-    Spent(u64),
+    /// This endpoint or host is spent, and the round was cut short behind its turn.
+    Spent(SpentWho),
 }
 
 /// The first endpoint that is spent.

@@ -14,7 +14,7 @@ pub invariant_of-self : goal.invariant_of-self
 invariant_of-self c =
     let a = c.self.inside in
     let r = reading a c.args.self.now c.self.invariant c.self.view_is c.requires c.in_default.not-Some in
-    stopped _ (BadJson c.in-Err.found) c.self.invariant.limit r.1 refl (read_fault a c.args.piece.now c.read_on.new.text.items c.min-used.result c.in-Err.found c.self.invariant r.0 r.1 (omega arith) c.in-Err.ensures.fault c.in-Err.ensures.left).kept
+    stopped a _ c.args.piece.now (BadJson c.in-Err.found) c.self.invariant refl r.1 refl (read_fault a c.args.piece.now c.read_on.new.text.items c.min-used.result c.in-Err.found c.self.invariant r.0 r.1 (omega arith) c.in-Err.ensures.fault c.in-Err.ensures.left)
 
 pub returns-in-Err-clause-fault : goal.returns-in-Err-clause-fault
 returns-in-Err-clause-fault c =
@@ -36,7 +36,7 @@ invariant_of-self-in-Err-take_whole c =
     let a = c.self.inside in
     let r = reading a c.args.self.now c.self.invariant c.self.view_is c.requires c.in_default.not-Some in
     let k = c.in_default-read_on.ensures in
-    stopped _ (BadJson c.in-Err-take_whole.found) c.self.invariant.limit r.1 refl (reads_cut a c.args.piece.now c.read_on.new.text.items c.take_whole.new.text.items c.min-used.result c.in-Err-take_whole.found c.self.invariant r.0 r.1 (omega arith) k.text (omega arith) k.reads.start c.in-Err-take_whole.ensures.err c.in-Err-take_whole.ensures.left).kept
+    stopped a _ c.args.piece.now (BadJson c.in-Err-take_whole.found) c.self.invariant refl r.1 refl (reads_cut a c.args.piece.now c.read_on.new.text.items c.take_whole.new.text.items c.min-used.result c.in-Err-take_whole.found c.self.invariant r.0 r.1 (omega arith) k.text (omega arith) k.reads.start c.in-Err-take_whole.ensures.err c.in-Err-take_whole.ensures.left)
 
 pub returns-in-Ok-clause-frame : goal.returns-in-Ok-clause-frame
 returns-in-Ok-clause-frame c =

@@ -1,7 +1,7 @@
 use Rattle.std.proofs.Common.{◌≡◌, ◌+◌, ◌-◌, ◌∙◌, sym, subst, arith, length}
-use Rattle.wx_native_frame.specs.Frames.{Unfinished, told, IsTrouble, IsUnderWay}
+use Rattle.wx_native_frame.specs.Frames.{Unfinished, told, IsTrouble, IsTroubleFirst, IsUnderWay}
 use Rattle.wx_native_frame.specs.declared.FrameFault.{FrameFault}
-use Rattle.wx_native_frame.proofs.ReaderLaws.{trouble_of, under_way_of, wanted_of}
+use Rattle.wx_native_frame.proofs.ReaderLaws.{trouble_of, under_way_of, first_of, wanted_of}
 use Rattle.wx_native_frame.proofs.frame_reader.FrameReader.wanted.Goals as goal
 
 pub returns-then-is_some-clause-text : goal.returns-then-is_some-clause-text
@@ -39,3 +39,12 @@ pub returns-clause-under_way : goal.returns-clause-under_way
 returns-clause-under_way c = λ more.
     let P : Unfinished → Type 0 = λ v. IsUnderWay v.bytes v.limit in
     subst P c.self.view_is (under_way_of c.self.inside c.self.invariant (sym c.is_some.ensures ∙ c.if-is_some.false))
+
+pub returns-then-is_some-clause-first : goal.returns-then-is_some-clause-first
+returns-then-is_some-clause-first c = let P : Unfinished → Type 0 = λ v. IsTroubleFirst v.bytes v.limit in subst P c.self.view_is (first_of c.self.inside c.self.invariant)
+
+pub returns-then-have-lt4-clause-first : goal.returns-then-have-lt4-clause-first
+returns-then-have-lt4-clause-first c = let P : Unfinished → Type 0 = λ v. IsTroubleFirst v.bytes v.limit in subst P c.self.view_is (first_of c.self.inside c.self.invariant)
+
+pub returns-clause-first : goal.returns-clause-first
+returns-clause-first c = let P : Unfinished → Type 0 = λ v. IsTroubleFirst v.bytes v.limit in subst P c.self.view_is (first_of c.self.inside c.self.invariant)

@@ -1,0 +1,5 @@
+pub mod BrokerDesks
+pub mod Journals
+pub mod Meets
+pub mod Slots
+pub mod Turns

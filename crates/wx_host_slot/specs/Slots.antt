@@ -1,0 +1,112 @@
+-- A host's slot in a run, and how it stands to the journal. Every list of entries has the newest first.
+use Rattle.std.specs.Prelude.{◌≡◌, ℕ, ◌+◌, ◌-◌, ◌<◌, nat_le, List, [], ◌++◌, Bool, true, false, ◌&&◌, not, Option, Some, None, IsSome}
+use Rattle.std.specs.Option.{option_map}
+use Rattle.wx_id.specs.declared.numbers.HostNo.{HostNo}
+use Rattle.wx_external.specs.World.{WorldLists}
+use Rattle.wx_native_frame.specs.Frames.{Unfinished}
+use Rattle.wx_native_frame.specs.Splits.{frames, AllFit}
+use Rattle.wx_machine.specs.declared.entries.Entry.{Entry}
+use Rattle.wx_machine.specs.declared.entries.TheConstants.{LONGEST_SAID}
+use Rattle.wx_machine.specs.Answers.{is_host_ready}
+use Rattle.wx_machine.specs.Texts.{has_ended}
+use Rattle.wx_host_launch.specs.Pipes.{InState, OutState, Stream}
+use Rattle.wx_host_launch.specs.Records.{Program, HostRecord, Writing, StarterState, empty_account, empty_record, started, finished}
+use Rattle.wx_host_slot.specs.Journals.{entries_of, taken_by, said_by, EachOf, IsInPlace, program_of}
+use Rattle.wx_host_slot.specs.Meets.{MeetsStarted}
+use Rattle.wx_host_slot.specs.declared.slot.Served.{Served}
+use Rattle.wx_host_slot.specs.declared.slot.Served.TheVariants.{Moved, Rested}
+
+-- a started child: the two ends of its pipe, and the reader of what it writes
+pub record ChildState : Type 0 where
+  pub input : InState
+  pub output : OutState
+  pub reader : Unfinished
+
+-- a slot: its starter, the child where one was started, how many entries its host has made, and whether the host ended
+pub record SlotState : Type 0 where
+  pub starter : StarterState
+  pub child : Option ChildState
+  pub made : ℕ
+  pub ended : Bool
+
+-- the slot in which nothing was started yet
+abbrev pub waiting_slot : StarterState → SlotState
+waiting_slot starter = record { starter = starter; child = None; made = 0; ended = false }
+
+-- the slot's record once its child is finished, where one was started
+abbrev pub record_behind : HostRecord → Option ChildState → HostRecord
+record_behind r None = r
+record_behind r (Some child) = finished r child.input child.output
+
+abbrev pub closing_record : SlotState → HostRecord
+closing_record slot = record_behind slot.starter.slot slot.child
+
+-- what was sent and read is told where it is told what children write, and then it is the frames of what the host took and
+-- said, and the child will write the rest
+abbrev pub PipesTold : Option Writing → Option Program → List (List ℕ) → List (List ℕ) → Option (List ℕ) → Option Stream → Type 0
+PipesTold (Some writing) (Some program) taken said (Some sent) (Some stream) =
+    (sent ≡ frames taken) × (stream.read ≡ frames said) × (writing program.path ≡ stream.read ++ stream.coming)
+PipesTold None (Some program) taken said None None = Unit {0}
+PipesTold _ _ taken said _ _ = ⊥
+
+-- A child runs for host h: nothing that it wrote is in hand, and its pipe has carried what the host took and said.
+pub record Runs (writing : Option Writing) (world : WorldLists) (past : List Entry) (h : HostNo) (child : ChildState) : Type 0 where
+  pub limit : child.reader.limit ≡ LONGEST_SAID
+  pub none_in_hand : child.reader.bytes ≡ []
+  pub fit : AllFit LONGEST_SAID (said_by h past)
+  pub pipes : PipesTold writing (program_of world past h) (taken_by h past) (said_by h past) child.input.sent child.output.stream
+
+-- the record of a host whose program was started, or was to be, before its child is finished
+pub record IsStartedRecord (writing : Option Writing) (program : Option Program) (r : HostRecord) : Type 0 where
+  pub account : r.account ≡ option_map (λ w. record empty_account { program = program }) writing
+  pub no_reads : r.failed_reads ≡ 0
+  pub no_writes : r.failed_writes ≡ 0
+
+-- host h has not ended, and its child runs
+pub record StandsRunning (writing : Option Writing) (world : WorldLists) (past : List Entry) (h : HostNo) (slot : SlotState) (child : ChildState) : Type 0 where
+  pub has_child : slot.child ≡ Some child
+  pub unended : slot.ended ≡ false
+  pub not_over : has_ended past h ≡ false
+  pub starter_record : IsStartedRecord writing (program_of world past h) slot.starter.slot
+  pub runs : Runs writing world past h child
+  pub in_place : EachOf h (IsInPlace h) past
+
+-- How a slot stands to the journal: its host has made no entry, and nothing was started; or its child runs; or the host ended,
+-- and the record that the slot will leave meets the journal.
+pub data StandsAs (writing : Option Writing) (world : WorldLists) (past : List Entry) (h : HostNo) (slot : SlotState) : Type 0 where
+  waiting : has_ended past h ≡ false → slot.starter.slot ≡ empty_record writing → slot ≡ waiting_slot slot.starter → StandsAs writing world past h slot
+  running : (child : ChildState) → StandsRunning writing world past h slot child → StandsAs writing world past h slot
+  over : slot.ended ≡ true → has_ended past h ≡ true → MeetsStarted writing world past h (closing_record slot) → StandsAs writing world past h slot
+
+-- The slot is host h's, and stands so.
+pub record Stands (writing : Option Writing) (world : WorldLists) (past : List Entry) (h : HostNo) (slot : SlotState) : Type 0 where
+  pub same_writing : slot.starter.writing ≡ writing
+  pub counted : slot.made ≡ entries_of h past
+  pub stands : StandsAs writing world past h slot
+
+-- the most entries that a host has before its last turns in a run
+abbrev pub host_limit : ℕ
+host_limit = 65536
+
+-- the host has made as many entries as it may, and has not ended
+abbrev pub is_spent_at : SlotState → Bool
+is_spent_at slot = nat_le host_limit slot.made && not slot.ended
+
+-- its program was started, or could not be
+abbrev pub WasStarted : SlotState → Type 0
+WasStarted slot = slot.ended ≡ false → IsSome slot.child
+
+abbrev pub left_with : Bool → Option ChildState → ℕ → ℕ
+left_with true child made = 0
+left_with false None made = host_limit + 4
+left_with false (Some child) made = (host_limit + 3) - made
+
+-- more than as many turns as it may still make
+abbrev pub turns_left : SlotState → ℕ
+turns_left slot = left_with slot.ended slot.child slot.made
+
+-- what a turn behind those of the endpoints came to: the host made an entry or its program was started, and fewer turns are left;
+-- or nothing was done, as there was nothing to take
+abbrev pub CameTo : HostNo → List Entry → List Entry → SlotState → SlotState → Served → Type 0
+CameTo h before after old new Moved = turns_left new < turns_left old
+CameTo h before after old new Rested = (after ≡ before) × (is_host_ready before h ≡ false) × (new ≡ old)

@@ -1,0 +1,8 @@
+//! The native hosts of a run over one broker: for each a slot, in which its program is started, served, heard and finished.
+#![tactic(auto)]
+
+mod broker_desk;
+mod slot;
+
+pub use broker_desk::BrokerHostDesk;
+pub use slot::{HostSlot, Served};

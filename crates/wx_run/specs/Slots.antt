@@ -1,0 +1,40 @@
+-- How the slots of a run's hosts stand to the journal. Every list of entries has the newest first.
+use Rattle.std.specs.Prelude.{◌≡◌, ℕ, ◌+◌, ◌≤◌, length, List, [], ◌∷◌, Bool, true, Option, Some, None, if◌then◌else◌}
+use Rattle.wx_id.specs.declared.numbers.HostNo.{HostNo}
+use Rattle.wx_external.specs.World.{WorldLists}
+use Rattle.wx_machine.specs.declared.entries.Entry.{Entry}
+use Rattle.wx_machine.specs.Hosts.{hosts}
+use Rattle.wx_host_launch.specs.Records.{Writing, StarterState}
+use Rattle.wx_host_slot.specs.Journals.{entries_of}
+use Rattle.wx_host_slot.specs.Slots.{SlotState, Stands, WasStarted, is_spent_at, turns_left}
+use Rattle.wx_run.specs.Hosts.{host_numbered, AreHostsWithin}
+
+-- each of these slots, of hosts numbered from n, stands to the journal
+abbrev pub SlotsStand : Option Writing → WorldLists → List Entry → ℕ → List SlotState → Type 0
+SlotsStand writing world past n [] = Unit {0}
+SlotsStand writing world past n (slot ∷ slots) = Stands writing world past (host_numbered n) slot × SlotsStand writing world past (n + 1) slots
+
+-- Every host has its slot, but those that were called since slots were last added, which have made no entry.
+pub record HostsStand (writing : Option Writing) (world : WorldLists) (past : List Entry) (slots : List SlotState) : Type 0 where
+  pub stand : SlotsStand writing world past 0 slots
+  pub below : length slots ≤ length (hosts past)
+  pub none_beyond : (h : HostNo) → length slots ≤ h.0 → entries_of h past ≡ 0
+  pub within_limit : AreHostsWithin past
+
+abbrev pub AllWereStarted : List SlotState → Type 0
+AllWereStarted [] = Unit {0}
+AllWereStarted (slot ∷ slots) = WasStarted slot × AllWereStarted slots
+
+-- the first of these slots, numbered from n, whose host is spent
+abbrev pub first_spent_slot : ℕ → List SlotState → Option HostNo
+first_spent_slot n [] = None
+first_spent_slot n (slot ∷ slots) = if is_spent_at slot then Some (host_numbered n) else first_spent_slot (n + 1) slots
+
+-- more than as many turns as the hosts of these slots may still make
+abbrev pub all_turns_left : List SlotState → ℕ
+all_turns_left [] = 0
+all_turns_left (slot ∷ slots) = turns_left slot + all_turns_left slots
+
+-- a starter that keeps so many places more
+abbrev pub keeping : ℕ → StarterState → StarterState
+keeping n starter = record starter { places = starter.places + n }
