@@ -634,7 +634,10 @@ fn lines_of_ends(rt: HostRuntime) -> Result<(), Fail> {
         (RunEnd::Done, ""),
         (RunEnd::Spent(SpentWho::Endpoint(0)), "wx: spent: p\n"),
         (RunEnd::Spent(SpentWho::Endpoint(2)), "wx: spent: r\n"),
-        (RunEnd::Spent(SpentWho::Host(HostNo(12))), "wx: spent: host 12\n"),
+        (
+            RunEnd::Spent(SpentWho::Host(HostNo(12))),
+            "wx: spent: host 12\n",
+        ),
     ];
     for (end, expected) in cases {
         let lines = lines_of_end(alloc, &scene, &journal, end)?;

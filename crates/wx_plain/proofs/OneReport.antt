@@ -1,5 +1,5 @@
 -- Bytes have at most one report: they are the text of one journal, or have one fault.
-use Rattle.std.proofs.Common.{◌≡◌, ◌∙◌, ◌<◌, ◌≤◌, ◌+◌, ◌^◌, ℕ, List, [], ◌++◌, length, Result, Ok, Err, refl, sym, ap, subst, arith, append-nil, append_assoc, length-append, lit<}
+use Rattle.std.proofs.Common.{◌≡◌, ◌∙◌, ◌<◌, ◌≤◌, ◌+◌, ◌^◌, ℕ, List, [], ◌++◌, length, Result, Ok, Err, sym, ap, arith, append-nil, append_assoc, length-append, lit<}
 use Rattle.std.specs.Prelude.{flat_map, reverse, true}
 use Rattle.wx_machine.specs.declared.entries.Entry.{Entry}
 use Rattle.wx_outside.specs.Shelf.{limit}

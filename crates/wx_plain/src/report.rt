@@ -69,10 +69,7 @@ fn settled_word(settled: Settled) -> &'static [u8]
 }
 
 /// The entry that settled a request, and how; or two dashes.
-fn put_settlement(
-    out: &mut Vec<u8>,
-    settled: Option<(EntryNo, Settled)>,
-) -> Result<(), AllocError>
+fn put_settlement(out: &mut Vec<u8>, settled: Option<(EntryNo, Settled)>) -> Result<(), AllocError>
     ensures { OnOk result (out.new.items ≡ out.old.items ++ reporting.settlement_text settled) }
 {
     match settled {

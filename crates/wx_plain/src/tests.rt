@@ -248,10 +248,7 @@ fn journals() -> &'static [(&'static [u8], &'static str)] {
             "channel 0 opened 0 closed - posted 1 taken 0\nrequest 0 opened 1 settled 4 left\nrequest 1 opened 2 settled - -\n",
         ),
         // Nothing to tell.
-        (
-            b"wx journal 1 chrome\n",
-            "",
-        ),
+        (b"wx journal 1 chrome\n", ""),
     ]
 }
 
@@ -262,7 +259,10 @@ fn reports(rt: HostRuntime) -> Result<(), Fail> {
         judge(&rt, rt.alloc(), &["report", "f"], bytes, expected)?;
     }
     // Where there is nothing to tell, nothing is written.
-    let mut shelf = shelf_of(rt.alloc(), Vec::from_slice(rt.alloc(), b"wx journal 1 chrome\n")?)?;
+    let mut shelf = shelf_of(
+        rt.alloc(),
+        Vec::from_slice(rt.alloc(), b"wx journal 1 chrome\n")?,
+    )?;
     let mut out = sink_of(rt.alloc(), 0);
     let mut err = sink_of(rt.alloc(), 0);
     let status = answer(rt.alloc(), &["report", "f"], &mut shelf, &mut out, &mut err)?;
@@ -282,7 +282,11 @@ fn no_journal<'a>(place: u64, kind: JournalKind, line: &'a str) -> Expected<'a> 
 
 #[test]
 fn no_journals(rt: HostRuntime) -> Result<(), Fail> {
-    let line = no_journal(20, JournalKind::Line, "wx: input refused: journal 20 line\n");
+    let line = no_journal(
+        20,
+        JournalKind::Line,
+        "wx: input refused: journal 20 line\n",
+    );
     let head = no_journal(0, JournalKind::Head, "wx: input refused: journal 0 head\n");
     let cases: [(&[u8], Expected); 4] = [
         (b"wx journal 1 chrome\nc0 take -> empty", line),
