@@ -4,6 +4,10 @@ pub mod CursorLemmas
 pub mod StepLemmas
 pub mod EndLemmas
 pub mod RoundLemmas
+pub mod HostEntries
+pub mod SlotLemmas
+pub mod ServeLemmas
+pub mod AddLemmas
 pub mod HostLemmas
 pub mod RunLemmas
 pub mod OpeningLemmas

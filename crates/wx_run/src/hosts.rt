@@ -1,18 +1,19 @@
-ghost use Rattle.std.specs.Prelude.{◌≡◌, ◌+◌, ◌-◌, ◌*◌, ◌<◌, ◌≤◌, ◌++◌, length, map, reverse, None, IfOk, OnOk};
+ghost use Rattle.std.specs.Prelude.{◌≡◌, ◌+◌, ◌-◌, ◌*◌, ◌<◌, ◌≤◌, ◌++◌, length, map, reverse, Option, None, IfOk, OnOk};
 ghost use Rattle.wx_machine.specs.Answers.{IsLegal};
 ghost use Rattle.wx_machine.specs.Hosts.{hosts};
 ghost use Rattle.wx_host_launch.specs.Records.{Writing};
 ghost use Rattle.wx_host_slot.specs.Slots.{closing_record, host_limit};
 ghost use Rattle.wx_run.specs.Hosts.{NoneReady};
 ghost use Rattle.wx_run.specs.Serving.{HostsServed, FirstHeard};
-ghost use Rattle.wx_run.specs.Slots.{HostsStand, AllWereStarted, first_spent_slot, all_turns_left, keeping};
+ghost use Rattle.wx_run.specs.Slots.{HostsStand, AllWereStarted, first_spent_slot, first_unended_slot, is_moved, all_turns_left, keeping};
 
 use crate::rounds::Rounded;
 use std::alloc::Global;
 use wx_broker::Broker;
 use wx_host_launch::Starter;
-use wx_host_slot::HostSlot;
+use wx_host_slot::{HostSlot, Served};
 use wx_id::{HostNo, NoMemory};
+use wx_script::SpentWho;
 
 /// Gives a slot to each host that has none.
 pub fn add_slots<P: Starter>(
@@ -27,7 +28,23 @@ pub fn add_slots<P: Starter>(
     ensures left { OnOk result (all_turns_left slots.new.items ≡ all_turns_left slots.old.items + (host_limit + 4) * (length slots.new.items - length slots.old.items)) }
     ensures kept { OnOk result (P.state starter.new ≡ keeping (length slots.new.items - length slots.old.items) (P.state starter.old)) }
 {
-    Err(NoMemory)
+    while (slots.len() as u64) < broker.hosts() {
+        let slot = HostSlot::new(starter.another()?);
+        if slots.push(slot).is_err() {
+            return Err(NoMemory);
+        }
+    }
+    Ok(())
+}
+
+/// Whether the host made an entry or its program was started.
+fn has_moved(served: Served) -> bool
+    ensures { result ≡ is_moved served }
+{
+    match served {
+        Served::Moved => true,
+        Served::Rested => false,
+    }
 }
 
 /// The turns of all hosts behind those of the endpoints, in rising number, until one is spent.
@@ -47,7 +64,29 @@ pub fn serve_hosts<P: Starter>(
     ensures legal { OnOk result (IsLegal broker.old.world broker.new.entries) }
     ensures same_world { OnOk result (broker.new.world ≡ broker.old.world) }
 {
-    Err(NoMemory)
+    let mut moved = false;
+    for i in 0..slots.len() {
+        let h = HostNo(i as u64);
+        let slot = &mut slots[i];
+        let served = slot.serve(alloc, broker, h)?;
+        if slot.is_spent() {
+            return Ok(Rounded::Spent(SpentWho::Host(h)));
+        }
+        moved |= has_moved(served);
+    }
+    Ok(if moved { Rounded::Moved } else { Rounded::Idle })
+}
+
+/// The first slot whose host has not ended.
+fn first_unended<P: Starter>(slots: &[HostSlot<P>]) -> Option<usize>
+    ensures { result ≡ first_unended_slot 0 slots.now }
+{
+    for (i, slot) in slots.iter().enumerate() {
+        if !slot.has_ended() {
+            return Some(i);
+        }
+    }
+    None
 }
 
 /// The turn of the first host that has not ended, where nobody else can do anything; no turn where there is none.
@@ -68,7 +107,17 @@ pub fn hear_first<P: Starter>(
     ensures legal { OnOk result (IsLegal broker.old.world broker.new.entries) }
     ensures same_world { OnOk result (broker.new.world ≡ broker.old.world) }
 {
-    Err(NoMemory)
+    let Some(i) = first_unended(slots) else {
+        return Ok(Rounded::Idle);
+    };
+    let h = HostNo(i as u64);
+    let slot = &mut slots[i];
+    slot.hear(broker, h)?;
+    Ok(if slot.is_spent() {
+        Rounded::Spent(SpentWho::Host(h))
+    } else {
+        Rounded::Moved
+    })
 }
 
 /// Finishes each started child, and hands the hosts' records over, in rising number.

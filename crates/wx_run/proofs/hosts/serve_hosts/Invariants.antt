@@ -1,0 +1,16 @@
+use Rattle.std.proofs.Common.{◌≡◌, ℕ, Bool, List, vec_len}
+use Rattle.std.specs.Prelude.{reverse}
+use Rattle.wx_broker.specs.State.{BrokerState}
+use Rattle.wx_machine.specs.Answers.{IsLegal}
+use Rattle.wx_host_slot.specs.Slots.{SlotState}
+use Rattle.wx_run.proofs.ServeLemmas.{ServedSoFar}
+use Rattle.wx_run.proofs.hosts.serve_hosts.Given as goal
+
+pub record Invariant (i count last : ℕ) (before now : List SlotState) (old new : BrokerState) (moved : Bool) : Type 0 where
+  pub same_length : count ≡ last
+  pub same_world : new.world ≡ old.world
+  pub legal : IsLegal old.world new.entries
+  pub so_far : ServedSoFar old.world i before now (reverse old.entries) (reverse new.entries) moved
+
+abbrev pub invariant-loop-i : goal.invariant-loop-i
+invariant-loop-i g l = Invariant l.i (vec_len l.slots) l.i-end l.fn.slots.items l.slots.items l.fn.broker l.broker l.moved
