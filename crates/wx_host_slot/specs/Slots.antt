@@ -13,6 +13,7 @@ use Rattle.wx_host_launch.specs.Pipes.{InState, OutState, Stream}
 use Rattle.wx_host_launch.specs.Records.{Program, HostRecord, Writing, StarterState, empty_account, empty_record, started, finished}
 use Rattle.wx_host_slot.specs.Journals.{entries_of, taken_by, said_by, EachOf, IsInPlace, program_of}
 use Rattle.wx_host_slot.specs.Meets.{MeetsStarted}
+use Rattle.wx_host_slot.specs.Turns.{HostTurn, SaysOrEnds}
 use Rattle.wx_host_slot.specs.declared.slot.Served.{Served}
 use Rattle.wx_host_slot.specs.declared.slot.Served.TheVariants.{Moved, Rested}
 
@@ -110,3 +111,17 @@ turns_left slot = left_with slot.ended slot.child slot.made
 abbrev pub CameTo : HostNo → List Entry → List Entry → SlotState → SlotState → Served → Type 0
 CameTo h before after old new Moved = turns_left new < turns_left old
 CameTo h before after old new Rested = (after ≡ before) × (is_host_ready before h ≡ false) × (new ≡ old)
+
+-- What a host's turn behind those of the endpoints leaves.
+pub record IsServed (writing : Option Writing) (world : WorldLists) (h : HostNo) (before after : List Entry) (old new : SlotState) (served : Served) : Type 0 where
+  pub turn : HostTurn h before after
+  pub stands : Stands writing world after h new
+  pub started : WasStarted new
+  pub came : CameTo h before after old new served
+
+-- What a host's turn leaves where nobody else can do anything.
+pub record HasSpoken (writing : Option Writing) (world : WorldLists) (h : HostNo) (before after : List Entry) (old new : SlotState) : Type 0 where
+  pub turn : SaysOrEnds h before after
+  pub stands : Stands writing world after h new
+  pub started : WasStarted new
+  pub less : turns_left new < turns_left old
