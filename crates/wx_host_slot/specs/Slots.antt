@@ -119,6 +119,14 @@ pub record IsServed (writing : Option Writing) (world : WorldLists) (h : HostNo)
   pub started : WasStarted new
   pub came : CameTo h before after old new served
 
+-- What the start of a program leaves: its child runs, and no entry was made; or it could not be started, and the host ended.
+pub record IsStarted (writing : Option Writing) (world : WorldLists) (h : HostNo) (before after : List Entry) (old new : SlotState) : Type 0 where
+  pub stands : Stands writing world after h new
+  pub started : WasStarted new
+  pub less : turns_left new < turns_left old
+  pub turn : new.ended ≡ true → HostTurn h before after
+  pub no_entry : new.ended ≡ false → (after ≡ before) × (new.made ≡ 0)
+
 -- What a host's turn leaves where nobody else can do anything.
 pub record HasSpoken (writing : Option Writing) (world : WorldLists) (h : HostNo) (before after : List Entry) (old new : SlotState) : Type 0 where
   pub turn : SaysOrEnds h before after
