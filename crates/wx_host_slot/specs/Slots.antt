@@ -1,5 +1,5 @@
 -- A host's slot in a run, and how it stands to the journal. Every list of entries has the newest first.
-use Rattle.std.specs.Prelude.{◌≡◌, ℕ, ◌+◌, ◌-◌, ◌<◌, nat_le, List, [], ◌++◌, Bool, true, false, ◌&&◌, not, Option, Some, None, IsSome}
+use Rattle.std.specs.Prelude.{◌≡◌, ℕ, ◌+◌, ◌-◌, ◌<◌, nat_le, List, [], ◌++◌, map, Bool, true, false, ◌&&◌, not, Option, Some, None, IsSome}
 use Rattle.std.specs.Option.{option_map}
 use Rattle.wx_id.specs.declared.numbers.HostNo.{HostNo}
 use Rattle.wx_external.specs.World.{WorldLists}
@@ -29,6 +29,20 @@ pub record SlotState : Type 0 where
   pub child : Option ChildState
   pub made : ℕ
   pub ended : Bool
+
+-- a slot, by its starter itself: what a starter tells is no data, since it tells a function
+pub record SlotView (P : Type 0) : Type 0 where
+  pub starter : P
+  pub child : Option ChildState
+  pub made : ℕ
+  pub ended : Bool
+
+-- the same slot, by what its starter tells
+abbrev pub slot_of : {P : Type 0} → (P → StarterState) → SlotView P → SlotState
+slot_of state slot = record { starter = state slot.starter; child = slot.child; made = slot.made; ended = slot.ended }
+
+abbrev pub slots_of : {P : Type 0} → (P → StarterState) → List (SlotView P) → List SlotState
+slots_of state slots = map (slot_of state) slots
 
 -- the slot in which nothing was started yet
 abbrev pub waiting_slot : StarterState → SlotState
