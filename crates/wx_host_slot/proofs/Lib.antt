@@ -7,3 +7,4 @@ pub mod InLemmas
 pub mod OutLemmas
 pub mod StartLemmas
 pub mod ServeLemmas
+pub mod DeskOverLemmas
