@@ -81,23 +81,26 @@ one_at h world past old new call a at one =
 pub takes_at : (h : HostNo) (world : WorldLists) (past : List Entry) (old new : DeskState) (a : Answer) → IsAt h world past old → TakesNews old new a → IsAt h world (own h HostTake a ∷ past) new × (is_host_ready past h ≡ true)
 takes_at h world past old new a at takes =
     let D : DeskState → Type 0 = IsAt h world (own h HostTake a ∷ past) in
-    let between = none_at h world past old takes.between at takes.others in
-    (subst D (sym takes.made) (behind_at h world past takes.between HostTake a (lent_by a) between),
-     ap (λ p. is_host_ready p h) (sym (past_at h world past takes.between between)) ∙ ap (is_host_ready (past_of takes.between)) (sym between.same_host) ∙ takes.ready)
+    let between = none_at h world past old takes.between at takes.others in (
+      subst D (sym takes.made) (behind_at h world past takes.between HostTake a (lent_by a) between),
+      ap (λ p. is_host_ready p h) (sym (past_at h world past takes.between between)) ∙ ap (is_host_ready (past_of takes.between)) (sym between.same_host) ∙ takes.ready,
+    )
 
 pub no_news_at : (h : HostNo) (world : WorldLists) (past : List Entry) (old new : DeskState) → IsAt h world past old → FindsNoNews old new → IsAt h world past new × (is_host_ready past h ≡ false)
 no_news_at h world past old new at finds =
     let D : DeskState → Type 0 = IsAt h world past in
-    let between = none_at h world past old finds.between at finds.others in
-    (subst D (sym finds.left) (record { same_host = between.same_host; same_world = between.same_world; seen = between.seen; alone = between.alone }),
-     ap (λ p. is_host_ready p h) (sym (past_at h world past finds.between between)) ∙ ap (is_host_ready (past_of finds.between)) (sym between.same_host) ∙ finds.not_ready)
+    let between = none_at h world past old finds.between at finds.others in (
+      subst D (sym finds.left) (record { same_host = between.same_host; same_world = between.same_world; seen = between.seen; alone = between.alone }),
+      ap (λ p. is_host_ready p h) (sym (past_at h world past finds.between between)) ∙ ap (is_host_ready (past_of finds.between)) (sym between.same_host) ∙ finds.not_ready,
+    )
 
 pub ends_at : (h : HostNo) (world : WorldLists) (past : List Entry) (old new : DeskState) (reason : Reason) (a : Answer) → IsAt h world past old → Ends old new reason a → IsAt h world (own h (HostEnded reason) a ∷ past) new × (next_text past h ≡ None)
 ends_at h world past old new reason a at ends =
     let D : DeskState → Type 0 = IsAt h world (own h (HostEnded reason) a ∷ past) in
-    let between = none_at h world past old ends.between at ends.others in
-    (subst D (sym ends.made) (behind_at h world past ends.between (HostEnded reason) a ends.between.lent between),
-     ap (λ p. next_text p h) (sym (past_at h world past ends.between between)) ∙ ap (next_text (past_of ends.between)) (sym between.same_host) ∙ ends.none_left)
+    let between = none_at h world past old ends.between at ends.others in (
+      subst D (sym ends.made) (behind_at h world past ends.between (HostEnded reason) a ends.between.lent between),
+      ap (λ p. next_text p h) (sym (past_at h world past ends.between between)) ∙ ap (next_text (past_of ends.between)) (sym between.same_host) ∙ ends.none_left,
+    )
 
 pub text_at : (h : HostNo) (world : WorldLists) (past : List Entry) (old new : DeskState) → IsAt h world past old → FindsText old new → IsSome (next_text past h)
 text_at h world past old new at finds =

@@ -63,9 +63,10 @@ texts_one : (h : HostNo) (world : WorldLists) (past : List Entry) (old new : Des
     → (texts_taken (past_of new) more ≡ text_taken past HostTake (HasText n)) × (calls_in more ≡ HostTake ∷ [])
 texts_one h world past old new more n at now seen short =
     let entries : List Entry = own h HostTake (HasText n) ∷ [] in
-    let is = more_at h world past entries old new more at now seen in
-    (ap (texts_taken (past_of new)) is ∙ texts_own h HostTake (HasText n) [] (past_of new) ∙ ap (λ p. text_taken p HostTake (HasText n)) (past_at h world (entries ++ past) new now) ∙ text_same entries past n short,
-     ap calls_in is ∙ calls_own h HostTake (HasText n) [])
+    let is = more_at h world past entries old new more at now seen in (
+      ap (texts_taken (past_of new)) is ∙ texts_own h HostTake (HasText n) [] (past_of new) ∙ ap (λ p. text_taken p HostTake (HasText n)) (past_at h world (entries ++ past) new now) ∙ text_same entries past n short,
+      ap calls_in is ∙ calls_own h HostTake (HasText n) [],
+    )
 
 -- of a take, and an end behind it
 texts_two : (h : HostNo) (world : WorldLists) (past : List Entry) (old new : DeskState) (more : List Seen) (n : EntryNo) (b : Answer) → IsAt h world past old → IsAt h world (own h (HostEnded WriteFailed) b ∷ own h HostTake (HasText n) ∷ past) new → new.history ≡ more ++ old.history → HasShortText past n
@@ -88,8 +89,8 @@ runs_taking writing world past h child input a bytes runs sent whole =
     let program = program_of world past h in
     let (p, is) = pipes_program writing program (taken_by h past) (said_by h past) child.input.sent child.output.stream runs.pipes in
     runs_by writing world (own h HostTake a ∷ past) h (with_input child input) program (taken_by h past ++ text_taken past HostTake a) (said_by h past)
-      (program_later world past (own h HostTake a) h p is ∙ sym is) (taken_own h HostTake a past) (said_own h HostTake a past ∙ append-nil (said_by h past)) runs.limit runs.none_in_hand runs.fit
-      (pipes_sent writing program (taken_by h past) (said_by h past) (text_taken past HostTake a) child.input.sent input.sent child.output.stream bytes sent whole runs.pipes)
+    (program_later world past (own h HostTake a) h p is ∙ sym is) (taken_own h HostTake a past) (said_own h HostTake a past ∙ append-nil (said_by h past)) runs.limit runs.none_in_hand runs.fit
+    (pipes_sent writing program (taken_by h past) (said_by h past) (text_taken past HostTake a) child.input.sent input.sent child.output.stream bytes sent whole runs.pipes)
 
 -- the host took, and goes on
 took_on : (writing : Option Writing) (world : WorldLists) (past : List Entry) (h : HostNo) (slot : SlotState) (child : ChildState) (input : InState) (a : Answer) (bytes : List ℕ) (desk : DeskState) → IsAt h world (own h HostTake a ∷ past) desk → is_host_ready past h ≡ true → Stands writing world past h slot → StandsRunning writing world past h slot child
@@ -132,7 +133,7 @@ in_waits writing world past h slot child old new input at s run turn =
     let (finds, same) = turn.came in
     let (now, not_ready) = no_news_at h world past old new at finds in
     let as_before : record slot { child = Some (with_input child input) } ≡ slot =
-        ap (λ i. record slot { child = Some (with_input child i) }) same ∙ ap (λ (c : Option ChildState). record slot { child = c }) (sym run.has_child) in
+    ap (λ i. record slot { child = Some (with_input child i) }) same ∙ ap (λ (c : Option ChildState). record slot { child = c }) (sym run.has_child) in
     let S : SlotState → Type 0 = Stands writing world past h in
     record {
       now = past;
@@ -188,8 +189,8 @@ meets_unwritten writing world past h slot child input n b bytes stopped run read
     let unended : has_ended before h ≡ false = ended_own h HostTake (HasText n) past run.not_over in
     let counted : 0 < r.failed_writes = (let none = run.starter_record.no_writes in omega (arith, none, rose)) in
     meets_ended writing world before h r WriteFailed b unended (run.in_place, λ _. ready) tt counted
-      (told_unwritten writing world before h r slot.starter.slot (program_of world past h) child.input.sent input.sent child.output.stream (Rose child.input.faults input.faults) (taken_by h past) (text_taken past HostTake (HasText n)) bytes stopped b unended
-        (program_later world past take h p is ∙ sym is) (taken_own h HostTake (HasText n) past) (subst F (sym said) run.runs.fit) run.starter_record (subst S (sym said) run.runs.pipes) sent (λ _. counted) sends)
+    (told_unwritten writing world before h r slot.starter.slot (program_of world past h) child.input.sent input.sent child.output.stream (Rose child.input.faults input.faults) (taken_by h past) (text_taken past HostTake (HasText n)) bytes stopped b unended
+    (program_later world past take h p is ∙ sym is) (taken_own h HostTake (HasText n) past) (subst F (sym said) run.runs.fit) run.starter_record (subst S (sym said) run.runs.pipes) sent (λ _. counted) sends)
 
 pub in_ended : (writing : Option Writing) (world : WorldLists) (past : List Entry) (h : HostNo) (slot : SlotState) (child : ChildState) (old new : DeskState) (input : InState) → IsAt h world past old → EachAfter (FollowsMachine world) (past_of new) → Stands writing world past h slot → StandsRunning writing world past h slot child → slot.made < 65536
     → IsInTurn old new child.input input into.Ended → Leads writing world h past slot (behind_turn slot (with_input child input) 2 true) new Moved

@@ -85,8 +85,8 @@ runs_saying writing world past h child output reader t bytes a runs limit none g
     let program = program_of world past h in
     let (p, is) = pipes_program writing program (taken_by h past) (said_by h past) child.input.sent child.output.stream runs.pipes in
     runs_by writing world (own h (HostSaid t) a ∷ past) h (with_output child output reader) program (taken_by h past) (said_by h past ++ t ∷ [])
-      (program_later world past (own h (HostSaid t) a) h p is ∙ sym is) (taken_own h (HostSaid t) a past ∙ append-nil (taken_by h past)) (said_own h (HostSaid t) a past) limit none (split_more (said_by h past) t bytes runs.fit split).fit
-      (pipes_read writing program (taken_by h past) (said_by h past) child.input.sent child.output.stream output.stream t bytes runs.fit given split runs.pipes)
+    (program_later world past (own h (HostSaid t) a) h p is ∙ sym is) (taken_own h (HostSaid t) a past ∙ append-nil (taken_by h past)) (said_own h (HostSaid t) a past) limit none (split_more (said_by h past) t bytes runs.fit split).fit
+    (pipes_read writing program (taken_by h past) (said_by h past) child.input.sent child.output.stream output.stream t bytes runs.fit given split runs.pipes)
 
 pub out_moved : (writing : Option Writing) (world : WorldLists) (past : List Entry) (h : HostNo) (slot : SlotState) (child : ChildState) (old new : DeskState) (output : OutState) (reader : Unfinished) → IsAt h world past old → Stands writing world past h slot → StandsRunning writing world past h slot child → slot.made < 65536 → reader.limit ≡ LONGEST_SAID
     → IsOutTurn old new child.reader reader child.output output out.Moved → Speaks writing world h past slot (behind_turn slot (with_output child output reader) 1 false) new
@@ -194,7 +194,7 @@ out_ended writing world past h slot child old new output reader at s run room tu
       spoken = record {
         turn = ended reason (record { answer = a; made = refl });
         stands = is_over writing world past h slot next 1 reason a s.same_writing (ap (λ n. n + 1) counted) run.not_over
-          (meets_ended writing world past h r reason a run.not_over run.in_place (leaves_none h past reason none)
+            (meets_ended writing world past h r reason a run.not_over run.in_place (leaves_none h past reason none)
             (counted_cause h (entries_of h past + 1) r past All half.rest child.output output reason cause counts)
             (told_ended writing world past h r slot.starter.slot (program_of world past h) child.input.sent child.output output All (last_said_closed past h) half.bytes half.rest reason a run.not_over refl run.runs.fit run.starter_record child.output.stream output.stream refl refl run.runs.pipes half.given split cause));
         started = was_started_by slot next 1 true;

@@ -30,7 +30,7 @@ pub sent_behind : (failed lastly : Type 0) (taken texts : List (List ℕ)) (byte
 sent_behind failed lastly taken texts bytes stopped f (whole e) = whole (ap (λ x. frames taken ++ x) e ∙ sym (frames_behind taken texts))
 sent_behind failed lastly taken texts bytes true f (in_part rose before last n t e) =
     in_part (f rose) (taken ++ before) last n (ap (λ x. taken ++ x) t ∙ sym (append_assoc taken before (last ∷ [])))
-      (ap (λ x. frames taken ++ x) e ∙ sym (append_assoc (frames taken) (frames before) (take n (frame last))) ∙ ap (λ x. x ++ take n (frame last)) (sym (frames_behind taken before)))
+    (ap (λ x. frames taken ++ x) e ∙ sym (append_assoc (frames taken) (frames before) (take n (frame last))) ∙ ap (λ x. x ++ take n (frame last)) (sym (frames_behind taken before)))
 
 pub pipes_sent : (writing : Option Writing) (program : Option Program) (taken said texts : List (List ℕ)) (sent now : Option (List ℕ)) (stream : Option Stream) (bytes : List ℕ) → now ≡ added sent bytes → bytes ≡ frames texts
     → PipesTold writing program taken said sent stream → PipesTold writing program (taken ++ texts) said now stream
@@ -64,10 +64,11 @@ split_more said t bytes fit h =
 
 pub pipes_read : (writing : Option Writing) (program : Option Program) (taken said : List (List ℕ)) (sent : Option (List ℕ)) (stream now : Option Stream) (t bytes : List ℕ) → AllFit LONGEST_SAID said → Gives stream now bytes → IsSplit LONGEST_SAID bytes (t ∷ []) []
     → PipesTold writing program taken said sent stream → PipesTold writing program taken (said ++ t ∷ []) sent now
-pipes_read (Some w) (Some p) taken said (Some sent) (Some old) (Some new) t bytes fit given split told =
-    (told.0,
-     given.read ∙ ap (λ x. x ++ bytes) told.1 ∙ (split_more said t bytes fit split).stream_is ∙ append-nil (frames (said ++ t ∷ [])),
-     told.2 ∙ ap (λ x. old.read ++ x) given.coming ∙ sym (append_assoc old.read bytes new.coming) ∙ ap (λ x. x ++ new.coming) (sym given.read))
+pipes_read (Some w) (Some p) taken said (Some sent) (Some old) (Some new) t bytes fit given split told = (
+  told.0,
+  given.read ∙ ap (λ x. x ++ bytes) told.1 ∙ (split_more said t bytes fit split).stream_is ∙ append-nil (frames (said ++ t ∷ [])),
+  told.2 ∙ ap (λ x. old.read ++ x) given.coming ∙ sym (append_assoc old.read bytes new.coming) ∙ ap (λ x. x ++ new.coming) (sym given.read),
+)
 pipes_read (Some w) (Some p) taken said (Some sent) (Some old) None t bytes fit given split told = absurd given
 pipes_read None (Some p) taken said None None None t bytes fit given split told = tt
 pipes_read None (Some p) taken said None None (Some new) t bytes fit given split told = absurd given

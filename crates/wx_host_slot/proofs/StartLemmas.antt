@@ -132,7 +132,7 @@ fresh_runs writing world past h p input output reader none is fresh limit bytes 
     let I : InState → Type 0 = λ i. PipesTold writing (Some p) [] [] i.sent output.stream in
     let O : OutState → Type 0 = λ o. PipesTold writing (Some p) [] [] (option_map (λ w. []) writing) o.stream in
     runs_by writing world past h (fresh_child input output reader) (Some p) [] [] is (none_taken past h none) (none_said past h none) limit bytes tt
-      (subst I (sym fresh.input_is) (subst O (sym fresh.output_is) (fresh_told writing p)))
+    (subst I (sym fresh.input_is) (subst O (sym fresh.output_is) (fresh_told writing p)))
 
 -- the slot with its child started
 abbrev pub with_child : SlotState → Program → ℕ → ChildState → SlotState

@@ -1,7 +1,11 @@
-ghost use Rattle.std.specs.Prelude.{◌≡◌, ◌<◌, false, length, reverse, Some, None, IsSome, IfOk, OnOk};
+ghost use Rattle.std.specs.Prelude.{◌≡◌, ◌<◌, false, length, reverse, Option, Some, None, IsSome, IfOk, OnOk};
+ghost use Rattle.wx_id.specs.declared.numbers.EntryNo.{EntryNo};
+ghost use Rattle.wx_machine.specs.declared.entries.TheConstants.{LONGEST_SAID};
 ghost use Rattle.wx_machine.specs.Answers.{IsLegal, is_host_ready};
 ghost use Rattle.wx_machine.specs.Hosts.{hosts};
 ghost use Rattle.wx_host_launch.specs.Records.{Program, Starts, AreFresh};
+ghost use Rattle.wx_host_launch.specs.Turns.{IsInTurn, IsOutTurn};
+ghost use Rattle.wx_host_slot.specs.BrokerDesks.{desk_over};
 ghost use Rattle.wx_host_slot.specs.Journals.{program_of};
 ghost use Rattle.wx_host_slot.specs.Slots.{slot_of, waiting_slot, closing_record, host_limit, Stands, WasStarted, is_spent_at, turns_left, CameTo, IsServed, IsStarted, HasSpoken};
 ghost use Rattle.wx_host_slot.specs.Turns.{HostTurn, SaysOrEnds};
@@ -82,6 +86,62 @@ fn launch<P: Starter>(
         Ok(arguments) => starter.start(manifest.path(), &arguments),
         Err(NoMemory) => Err(StartFault::NoMemory),
     }
+}
+
+/// One turn of a child's input.
+fn take_next<I: HostIn, O: HostOut>(
+    child: Child<I, O>,
+    broker: &mut Broker,
+    h: HostNo,
+) -> (Child<I, O>, InTurn)
+    requires legal { IsLegal broker.old.world broker.old.entries }
+    requires host { h.0 < length (hosts (reverse broker.old.entries)) }
+    ensures turn { (lent : Option EntryNo) × IsInTurn (desk_over h broker.old None) (desk_over h broker.new lent) child.input result.0.input result.1 }
+    ensures same { result.0 ≡ record child { input = result.0.input } }
+    ensures legal { IsLegal broker.old.world broker.new.entries }
+    ensures same_world { broker.new.world ≡ broker.old.world }
+{
+    let Child {
+        input,
+        output,
+        reader,
+    } = child;
+    let (input, came) = in_turn_at(broker, h, input);
+    let child = Child {
+        input,
+        output,
+        reader,
+    };
+    (child, came)
+}
+
+/// One turn of a child's output.
+fn hear_next<I: HostIn, O: HostOut>(
+    child: Child<I, O>,
+    broker: &mut Broker,
+    h: HostNo,
+) -> (Child<I, O>, OutTurn)
+    requires legal { IsLegal broker.old.world broker.old.entries }
+    requires host { h.0 < length (hosts (reverse broker.old.entries)) }
+    requires limit { child.reader.limit ≡ LONGEST_SAID }
+    ensures turn { (lent : Option EntryNo) × IsOutTurn (desk_over h broker.old None) (desk_over h broker.new lent) child.reader result.0.reader child.output result.0.output result.1 }
+    ensures same { result.0 ≡ record child { output = result.0.output; reader = result.0.reader } }
+    ensures limit { result.0.reader.limit ≡ LONGEST_SAID }
+    ensures legal { IsLegal broker.old.world broker.new.entries }
+    ensures same_world { broker.new.world ≡ broker.old.world }
+{
+    let Child {
+        input,
+        output,
+        reader,
+    } = child;
+    let ((reader, output), came) = out_turn_at(broker, h, reader, output);
+    let child = Child {
+        input,
+        output,
+        reader,
+    };
+    (child, came)
 }
 
 impl<P: Starter> HostSlot<P> {
@@ -205,20 +265,11 @@ impl<P: Starter> HostSlot<P> {
         ensures legal { OnOk result (IsLegal broker.old.world broker.new.entries) }
         ensures same_world { OnOk result (broker.new.world ≡ broker.old.world) }
     {
-        let Some(Child {
-            input,
-            output,
-            reader,
-        }) = self.child.take()
-        else {
+        let Some(child) = self.child.take() else {
             unreachable!()
         };
-        let (input, came) = in_turn_at(broker, h, input);
-        self.child = Some(Child {
-            input,
-            output,
-            reader,
-        });
+        let (child, came) = take_next(child, broker, h);
+        self.child = Some(child);
         match came {
             InTurn::Moved | InTurn::Closed => {
                 self.made += 1;
@@ -251,20 +302,11 @@ impl<P: Starter> HostSlot<P> {
         ensures legal { OnOk result (IsLegal broker.old.world broker.new.entries) }
         ensures same_world { OnOk result (broker.new.world ≡ broker.old.world) }
     {
-        let Some(Child {
-            input,
-            output,
-            reader,
-        }) = self.child.take()
-        else {
+        let Some(child) = self.child.take() else {
             unreachable!()
         };
-        let ((reader, output), came) = out_turn_at(broker, h, reader, output);
-        self.child = Some(Child {
-            input,
-            output,
-            reader,
-        });
+        let (child, came) = hear_next(child, broker, h);
+        self.child = Some(child);
         match came {
             OutTurn::Moved => {
                 self.made += 1;
