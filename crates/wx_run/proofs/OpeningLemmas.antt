@@ -22,6 +22,7 @@ use Rattle.wx_machine.specs.Hosts.{hosts}
 use Rattle.wx_machine.specs.Texts.{has_ended}
 use Rattle.wx_broker.specs.State.{BrokerState}
 use Rattle.wx_broker.specs.Steps.{Appends}
+use Rattle.wx_laws.proofs.Keeping.{legal_keeps_laws}
 use Rattle.wx_script.specs.declared.script.Act.TheVariants as act
 use Rattle.wx_script.specs.declared.script.Command.{Command}
 use Rattle.wx_script.specs.declared.script.Command.TheVariants.{Plain, Repeat}
@@ -365,6 +366,7 @@ run_of world other scene ps opened journal end legal so came =
     let in_rounds : Rounds rounds.count scripts (reverse (opening scene)) (reverse journal) = subst (λ j. Rounds rounds.count scripts j (reverse journal)) begins rounds.rounds in
     record {
       legal = legal;
+      laws = legal_keeps_laws world journal legal;
       carries_out = rounds.follows;
       begins = begins_with rounds.count scripts (opening scene) journal in_rounds;
       count = rounds.count;
