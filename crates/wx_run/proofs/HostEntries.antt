@@ -1,7 +1,7 @@
 -- What the turns of hosts add to a journal. Every list of entries has the newest first.
-use Rattle.std.proofs.Common.{◌≡◌, ◌≢◌, ℕ, zero, suc, ◌+◌, ◌<◌, ◌≤◌, length, cond, arith, Bool, true, false, List, [], ◌∷◌, ◌++◌, refl, sym, ap, ◌∙◌, subst, append_assoc, append-nil}
+use Rattle.std.proofs.Common.{◌≡◌, ◌≢◌, ℕ, zero, suc, ◌+◌, ◌≤◌, length, cond, arith, Bool, true, false, List, [], ◌∷◌, ◌++◌, refl, sym, ap, ◌∙◌, subst, append_assoc, append-nil}
 use Rattle.std.specs.Prelude.{option_to_list, not, ◌&&◌}
-use Rattle.std.proofs.lemmas.Bool.{eq-eqb, ne_eqb}
+use Rattle.std.proofs.lemmas.Bool.{ne_eqb}
 use Rattle.wx_id.specs.declared.numbers.HostNo.{HostNo}
 use Rattle.wx_machine.specs.declared.entries.Who.{Who}
 use Rattle.wx_machine.specs.declared.entries.Who.TheVariants.{Host as ByHost}
@@ -10,7 +10,6 @@ use Rattle.wx_machine.specs.declared.entries.Entry.{Entry}
 use Rattle.wx_machine.specs.Contexts.{is_enter}
 use Rattle.wx_machine.specs.Hosts.{hosts, started_by, is_by_host}
 use Rattle.wx_machine.specs.Texts.{has_ended}
-use Rattle.wx_machine.specs.Answers.{is_host_ready}
 use Rattle.wx_host_slot.specs.Journals.{entries_of}
 use Rattle.wx_host_slot.specs.Turns.{Makes, HostTurn, not_started, took, not_written, rested, SaysOrEnds, said, ended}
 use Rattle.wx_run.specs.Hosts.{host_numbered, HostTurns}

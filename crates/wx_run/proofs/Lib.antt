@@ -8,6 +8,7 @@ pub mod HostEntries
 pub mod SlotLemmas
 pub mod ServeLemmas
 pub mod AddLemmas
+pub mod FinishLemmas
 pub mod HostLemmas
 pub mod RunLemmas
 pub mod OpeningLemmas

@@ -18,7 +18,7 @@ use Rattle.wx_host_slot.specs.Turns.{HostTurn, SaysOrEnds}
 use Rattle.wx_host_slot.specs.declared.slot.Served.{Served}
 use Rattle.wx_host_slot.specs.declared.slot.Served.TheVariants as served
 use Rattle.wx_run.specs.declared.rounds.Rounded.TheVariants.{Moved, Idle, Spent}
-use Rattle.wx_run.specs.Hosts.{host_numbered, HaveEnded, IsFirstUnended, NoneReady, HostTurns, spent_host}
+use Rattle.wx_run.specs.Hosts.{host_numbered, HaveEnded, IsFirstUnended, HostTurns, spent_host}
 use Rattle.wx_run.specs.Slots.{HostsStand, AllWereStarted, first_spent_slot, first_unended_slot, all_turns_left, is_moved}
 use Rattle.wx_run.specs.Serving.{HostsServed, FirstHeard}
 use Rattle.wx_run.proofs.ListLemmas.{set_same, element_at}
@@ -218,8 +218,7 @@ pub turn_spends : (writing : Option Writing) (world : WorldLists) (i : ℕ) (old
     → ServedSoFar world i old slots a b moved → IsNextTurn world i slots b c p q came → is_spent_at q ≡ true → HostsServed a c old (set slots i q) (Spent (Host (host_numbered i)))
 turn_spends writing world i old slots a b c p q moved came first all so next is =
     let kept = ap length (hosts_stay a b (host_turns_stay i a b so.turns)) in
-    let within = slice_get_within slots i p next.at in
-    (
+    let within = slice_get_within slots i p next.at in (
       suc i,
       omega (arith, within, all, so.same_size),
       (b, so.turns, next.turn),

@@ -1,5 +1,5 @@
 -- How the slots of all hosts stand behind further entries. Every list of entries has the newest first.
-use Rattle.std.proofs.Common.{◌≡◌, ◌≢◌, ℕ, zero, suc, ◌+◌, ◌-◌, ◌<◌, ◌≤◌, ◌⊎◌, inl, inr, length, map, set, cond, arith, Bool, true, false, List, [], ◌∷◌, ◌++◌, Some, None, refl, sym, ap, ◌∙◌, subst}
+use Rattle.std.proofs.Common.{◌≡◌, ◌≢◌, ℕ, zero, suc, ◌+◌, ◌<◌, ◌≤◌, ◌⊎◌, inl, inr, length, map, set, cond, arith, Bool, true, false, List, [], ◌∷◌, ◌++◌, Some, refl, sym, ap, ◌∙◌, subst}
 use Rattle.std.specs.declared.option.Option.{Option}
 use Rattle.std.specs.Prelude.{slice_get, not, ◌&&◌, nat_le, option_to_list}
 use Rattle.std.proofs.lemmas.Bool.{cases_eq, leb-false}
@@ -14,9 +14,9 @@ use Rattle.wx_machine.specs.Hosts.{hosts, starts, is_by_host}
 use Rattle.wx_machine.specs.Texts.{has_ended}
 use Rattle.wx_host_launch.specs.Records.{Writing, StarterState, slot_like}
 use Rattle.wx_host_slot.specs.Journals.{entries_of}
-use Rattle.wx_host_slot.specs.Slots.{SlotState, waiting, running, over, Stands, waiting_slot, closing_record, is_spent_at, turns_left, host_limit}
+use Rattle.wx_host_slot.specs.Slots.{SlotState, waiting, running, over, Stands, waiting_slot, closing_record, is_spent_at, host_limit}
 use Rattle.wx_run.specs.Hosts.{host_numbered, HaveEnded, is_host_spent, spent_host_from, spent_host, AreHostsWithin, RecordsMeet}
-use Rattle.wx_run.specs.Slots.{SlotsStand, HostsStand, first_spent_slot, all_turns_left}
+use Rattle.wx_run.specs.Slots.{SlotsStand, HostsStand, first_spent_slot}
 use Rattle.wx_host_slot.proofs.StandsLater.{stands_later, meets_at_end, waiting_stands}
 pub use Rattle.wx_run.proofs.HostEntries.{Adds, AreOfHost, hosts_newer, adds_hosts, adds_entries, adds_at_most, by_other_host, GrowsByHosts, host_turns_stay, hosts_stay}
 
@@ -75,8 +75,7 @@ slots_set : (writing : Option Writing) (world : WorldLists) (a b : List Entry) (
     → SlotsStand writing world a n slots → Stands writing world b h q → SlotsStand writing world b n (set slots i q)
 slots_set writing world a b [] n i h q adds at within stand stands = tt
 slots_set writing world a b (p ∷ slots) n zero h q adds at within stand stands =
-    let here : h.0 ≡ n = omega arith in
-    (
+    let here : h.0 ≡ n = omega arith in (
       subst (λ m. Stands writing world b (host_numbered m) q) here stands,
       slots_stand writing world a b (n + 1) slots (λ g r above below. others_stand writing world a b h g r adds (omega (arith, above, here)) (omega (arith, below, within))) stand.1,
     )

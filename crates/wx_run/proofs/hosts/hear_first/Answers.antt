@@ -1,4 +1,4 @@
-use Rattle.std.proofs.Common.{rules, ◌≡◌, ◌<◌, ◌∙◌, length, reverse, Some, None, arith, sym, ap, refl}
+use Rattle.std.proofs.Common.{rules, ◌≡◌, Bool, reverse, Some, None, arith, sym, refl}
 use Rattle.wx_run.specs.Hosts.{host_numbered}
 use Rattle.wx_run.specs.Slots.{first_unended_slot}
 use Rattle.wx_run.proofs.ServeLemmas.{all_ended, is_first_unended, first_slot, stand_behind, IsHeardTurn, heard_turn, heard_moved, heard_spent}
@@ -72,7 +72,7 @@ returns-then-is_spent-clause-heard g c =
     let a = reverse c.args.broker.now.entries in
     let b = reverse c.hear.new.broker.entries in
     let heard : IsHeardTurn c.args.broker.now.world c.in-Some.i c.args.slots.now.items a b p q = record { at = first.slot.at; first = first.first; turn = c.in_ok-hear.ensures.turn; stands = c.in_ok-hear.ensures.stands; less = c.in_ok-hear.ensures.less } in
-    heard_spent c.requires.stand.0 c.args.broker.now.world c.in-Some.i c.args.slots.now.items a b p q c.requires.stand.1 c.requires.all c.requires.unspent heard (sym c.if-is_spent.ensures)
+    heard_spent c.requires.stand.0 c.args.broker.now.world c.in-Some.i c.args.slots.now.items a b p q c.requires.stand.1 c.requires.all c.requires.unspent heard (sym {A = Bool} c.if-is_spent.ensures)
 
 pub returns-else-is_spent-clause-stand : goal.returns-else-is_spent-clause-stand
 returns-else-is_spent-clause-stand g c =
@@ -94,4 +94,4 @@ returns-else-is_spent-clause-heard g c =
     let a = reverse c.args.broker.now.entries in
     let b = reverse c.hear.new.broker.entries in
     let heard : IsHeardTurn c.args.broker.now.world c.in-Some.i c.args.slots.now.items a b p q = record { at = first.slot.at; first = first.first; turn = c.in_ok-hear.ensures.turn; stands = c.in_ok-hear.ensures.stands; less = c.in_ok-hear.ensures.less } in
-    heard_moved c.args.broker.now.world c.in-Some.i c.args.slots.now.items a b p q c.requires.unspent heard (sym c.if-is_spent.ensures)
+    heard_moved c.args.broker.now.world c.in-Some.i c.args.slots.now.items a b p q c.requires.unspent heard (sym {A = Bool} c.if-is_spent.ensures)

@@ -1,4 +1,4 @@
-use Rattle.std.proofs.Common.{◌≡◌, ◌<◌, ◌∙◌, false, length, reverse, arith, sym, subst, refl}
+use Rattle.std.proofs.Common.{◌≡◌, ◌<◌, ◌∙◌, Bool, length, reverse, arith, sym, subst, refl}
 use Rattle.wx_machine.specs.Answers.{IsLegal}
 use Rattle.wx_machine.specs.Hosts.{hosts}
 use Rattle.wx_host_slot.specs.Slots.{Stands}
@@ -64,7 +64,7 @@ returns-then-is_spent-clause-served g c =
       started = c.in_ok-served.ensures.started;
       came_to = c.in_ok-served.ensures.came;
     } in
-    turn_spends c.requires.stand.0 world c.loop-i.i c.args.slots.now.items c.loop-i.slots.items _ a b p q c.loop-i.moved c.in_ok-served.served c.requires.stand.1 c.requires.all so next (sym c.if-is_spent.ensures)
+    turn_spends c.requires.stand.0 world c.loop-i.i c.args.slots.now.items c.loop-i.slots.items _ a b p q c.loop-i.moved c.in_ok-served.served c.requires.stand.1 c.requires.all so next (sym {A = Bool} c.if-is_spent.ensures)
 
 pub loop-i-preserved : goal.loop-i-preserved
 loop-i-preserved g c =
@@ -87,7 +87,7 @@ loop-i-preserved g c =
       same_length = c.loop-i.invariant.same_length;
       same_world = c.in_ok-served.ensures.same_world ∙ c.loop-i.invariant.same_world;
       legal = subst (λ w. IsLegal w c.serve.new.broker.entries) c.loop-i.invariant.same_world c.in_ok-served.ensures.legal;
-      so_far = turn_served world c.loop-i.i c.args.slots.now.items c.loop-i.slots.items _ a b p q c.loop-i.moved c.has_moved.result c.in_ok-served.served so next c.has_moved.ensures (sym c.if-is_spent.ensures);
+      so_far = turn_served world c.loop-i.i c.args.slots.now.items c.loop-i.slots.items _ a b p q c.loop-i.moved c.has_moved.result c.in_ok-served.served so next c.has_moved.ensures (sym {A = Bool} c.if-is_spent.ensures);
     }
 
 pub returns-then-moved-clause-served : goal.returns-then-moved-clause-served
