@@ -20,7 +20,9 @@ use Rattle.wx_broker.specs.State.{BrokerState}
 use Rattle.wx_broker.specs.Steps.{Appends}
 use Rattle.wx_outside.specs.Causes.{Rose}
 use Rattle.wx_host_launch.specs.Pipes.{InState, OutState}
-use Rattle.wx_host_launch.specs.Records.{Program, Writing, StarterState, starting, AreFresh}
+use Rattle.wx_host_launch.specs.Records.{Program, Writing, StarterState, starting, Starts, AreFresh}
+use Rattle.wx_host_launch.specs.declared.starter.StartFault.{StartFault}
+use Rattle.wx_host_launch.specs.declared.starter.StartFault.TheVariants as start
 use Rattle.wx_host_launch.specs.Steps.{past_of}
 use Rattle.wx_host_launch.specs.Turns.{IsInTurn, IsOutTurn}
 use Rattle.wx_host_launch.specs.declared.turns.InTurn.{InTurn}
@@ -159,6 +161,14 @@ pub speaks_never_waits : (writing : Option Writing) (h : HostNo) (old new : Brok
 speaks_never_waits writing h old new slot child lent output reader t ready turn =
     never_waits h old.world (reverse old.entries) (desk_over h old None) (desk_over h new lent) child.reader reader child.output output (at_first h old None) ready t.runs.not_over turn
 
+-- A slot by its fields
+
+abbrev pub slot_kept : {P : Type 0} → P → Option ChildState → ℕ → Bool → SlotView P
+slot_kept starter child made ended = record { starter = starter; child = child; made = made; ended = ended }
+
+pub ended_as : {P : Type 0} (was slot : SlotView P) (b : Bool) → was ≡ slot → was.ended ≡ b → slot.ended ≡ b
+ended_as {P} was slot b same is = ap (λ (v : SlotView P). v.ended) (sym same) ∙ is
+
 -- Putting a child back
 
 -- the slot with its child put back, and more entries made
@@ -285,6 +295,11 @@ starts_child {P} state h broker was slot starter input output reader same s unen
     let T : StarterState → Type 0 = λ t. G (record { starter = t; child = Some child; made = was.made; ended = was.ended }) in
     subst T (sym left) (subst V (sym same) base)
 
+pub failed_starts : (old new : StarterState) (path : List ℕ) (arguments : List (List ℕ)) (fault : StartFault) → fault ≡ start.Failed → Starts {T = Unit {0}} old new path arguments (Err fault) → (n : ℕ) × Rose old.slot.failed_starts n × (new ≡ starting old path arguments n)
+failed_starts old new path arguments fault is h =
+    let F : StartFault → Type 0 = λ f. Starts {T = Unit {0}} old new path arguments (Err f) in
+    subst F is h
+
 pub starts_none : {P : Type 0} (state : P → StarterState) (h : HostNo) (broker new : BrokerState) (was slot : SlotView P) (starter : P) (a : Answer) → was ≡ slot → Stands (state slot.starter).writing broker.world (reverse broker.entries) h (slot_of state slot) → slot.ended ≡ false → slot.child ≡ None → IsSome (program_of broker.world (reverse broker.entries) h)
     → ((p : Program) → program_of broker.world (reverse broker.entries) h ≡ Some p → (n : ℕ) × Rose (state was.starter).slot.failed_starts n × (state starter ≡ starting (state was.starter) p.path p.arguments n)) → Appends broker new (ByHost h) (HostEnded StartFailed) a
     → IsStarted (state slot.starter).writing broker.world h (reverse broker.entries) (reverse new.entries) (slot_of state slot) (slot_of state (record { starter = starter; child = was.child; made = 1; ended = true }))
@@ -325,6 +340,11 @@ came_less h b c mid new Rested most came first =
     let left : turns_left new ≡ turns_left mid = ap turns_left same in
     omega (arith, left, first)
 
+pub stands_after : (writing : Option Writing) (world other : WorldLists) (past : List Entry) (h : HostNo) (slot : SlotState) → other ≡ world → Stands writing world past h slot → Stands slot.starter.writing other past h slot
+stands_after writing world other past h slot same s =
+    let W : WorldLists → Type 0 = λ w. Stands slot.starter.writing w past h slot in
+    subst W (sym same) (own_writing writing world past h slot s)
+
 pub served_behind : (writing : Option Writing) (world : WorldLists) (h : HostNo) (a b c : List Entry) (slot mid new : SlotState) (came : Served) → IsStarted writing world h a b slot mid → mid.ended ≡ false → IsServed writing world h b c mid new came → IsServed writing world h a c slot new Moved
 served_behind writing world h a b c slot mid new came s unended served =
     let (same, none) = s.no_entry unended in
@@ -335,3 +355,10 @@ served_behind writing world h a b c slot mid new came s unended served =
       started = served.started;
       came = came_less h b c mid new came (turns_left slot) served.came s.less;
     }
+
+-- the same, told by what the starter tells behind the start
+pub served_again : (writing : Option Writing) (world other : WorldLists) (h : HostNo) (a b c : List Entry) (slot mid new : SlotState) (came : Served) → IsStarted writing world h a b slot mid → other ≡ world → mid.ended ≡ false → IsServed mid.starter.writing other h b c mid new came → IsServed writing world h a c slot new Moved
+served_again writing world other h a b c slot mid new came s same unended served =
+    let W : Option Writing → Type 0 = λ w. IsServed w world h b c mid new came in
+    let O : WorldLists → Type 0 = λ o. IsServed mid.starter.writing o h b c mid new came in
+    served_behind writing world h a b c slot mid new came s unended (subst W s.stands.same_writing (subst O same served))
