@@ -9,6 +9,7 @@ pub mod SlotLemmas
 pub mod ServeLemmas
 pub mod AddLemmas
 pub mod FinishLemmas
+pub mod ViewLemmas
 pub mod HostLemmas
 pub mod RunLemmas
 pub mod OpeningLemmas
