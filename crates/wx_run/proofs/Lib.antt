@@ -1,9 +1,11 @@
 pub mod ListLemmas
+pub mod HostEntries
+pub mod SlotLemmas
 pub mod SeenLemmas
 pub mod CursorLemmas
 pub mod StepLemmas
 pub mod EndLemmas
-pub mod RoundLemmas
 pub mod HostLemmas
+pub mod RoundLemmas
 pub mod RunLemmas
 pub mod OpeningLemmas
