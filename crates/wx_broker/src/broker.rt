@@ -5,6 +5,7 @@ ghost use Rattle.wx_machine.specs.Events.{has_pending};
 ghost use Rattle.wx_broker.specs.Carried.{is_event};
 ghost use Rattle.wx_broker.specs.Steps.{Appends, Stays};
 ghost use Rattle.wx_broker.specs.Tables.{is_channel, is_request, is_quiet};
+ghost use Rattle.wx_laws.specs.Keeping.{KeepsLaws};
 
 use crate::carried::{entered, port_name, posted, replied, sent};
 use crate::{answers, tables};
@@ -425,10 +426,11 @@ impl Broker {
         &self.journal
     }
 
-    /// The journal; the broker ends.
+    /// The journal, which keeps the laws of messaging; the broker ends.
     pub fn into_journal(self) -> Journal
         ensures entries { result.entries ≡ self.entries }
         ensures legal { IsLegal self.world self.entries }
+        ensures laws { KeepsLaws self.world self.entries }
     {
         let Broker { journal, .. } = self;
         journal

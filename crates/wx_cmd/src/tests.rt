@@ -3,7 +3,7 @@ use crate::wx;
 use std::alloc::{AllocError, Global};
 use std::test::Fail;
 use wx_id::HostNo;
-use wx_journal::Journal;
+use wx_journal::{Journal, JournalFault, JournalKind};
 use wx_match_pattern::{PatternFault, PatternKind};
 use wx_outside::{MemoryFile, MemoryShelf, MemorySink};
 use wx_run::{RunEnd, SpentWho};
@@ -634,7 +634,10 @@ fn lines_of_ends(rt: HostRuntime) -> Result<(), Fail> {
         (RunEnd::Done, ""),
         (RunEnd::Spent(SpentWho::Endpoint(0)), "wx: spent: p\n"),
         (RunEnd::Spent(SpentWho::Endpoint(2)), "wx: spent: r\n"),
-        (RunEnd::Spent(SpentWho::Host(HostNo(12))), "wx: spent: host 12\n"),
+        (
+            RunEnd::Spent(SpentWho::Host(HostNo(12))),
+            "wx: spent: host 12\n",
+        ),
     ];
     for (end, expected) in cases {
         let lines = lines_of_end(alloc, &scene, &journal, end)?;
@@ -651,7 +654,11 @@ fn other_commands(rt: HostRuntime) -> Result<(), Fail> {
         place: 1,
         kind: PatternKind::Scheme,
     }));
-    let cases: [(&[&str], Status, &str, &str); 7] = [
+    let no_journal = Status::InputRefused(InputKind::Journal(JournalFault {
+        place: 0,
+        kind: JournalKind::Head,
+    }));
+    let cases: [(&[&str], Status, &str, &str); 8] = [
         (
             &["match", "*://*.a.b/x*", "https://c.a.b/x?q=1"],
             Status::Done,
@@ -683,6 +690,12 @@ fn other_commands(rt: HostRuntime) -> Result<(), Fail> {
             Status::InputRefused(InputKind::Missing),
             "",
             "wx: input refused: missing\n",
+        ),
+        (
+            &["report", "s"],
+            no_journal,
+            "",
+            "wx: input refused: journal 0 head\n",
         ),
     ];
     for (words, status, on_out, on_err) in cases {

@@ -1,5 +1,5 @@
 -- A host's slot in a run, and how it stands to the journal. Every list of entries has the newest first.
-use Rattle.std.specs.Prelude.{◌≡◌, ℕ, ◌+◌, ◌-◌, ◌<◌, nat_le, List, [], ◌++◌, Bool, true, false, ◌&&◌, not, Option, Some, None, IsSome}
+use Rattle.std.specs.Prelude.{◌≡◌, ℕ, ◌+◌, ◌-◌, ◌<◌, nat_le, List, [], ◌++◌, map, Bool, true, false, ◌&&◌, not, Option, Some, None, IsSome}
 use Rattle.std.specs.Option.{option_map}
 use Rattle.wx_id.specs.declared.numbers.HostNo.{HostNo}
 use Rattle.wx_external.specs.World.{WorldLists}
@@ -13,6 +13,7 @@ use Rattle.wx_host_launch.specs.Pipes.{InState, OutState, Stream}
 use Rattle.wx_host_launch.specs.Records.{Program, HostRecord, Writing, StarterState, empty_account, empty_record, started, finished}
 use Rattle.wx_host_slot.specs.Journals.{entries_of, taken_by, said_by, EachOf, IsInPlace, program_of}
 use Rattle.wx_host_slot.specs.Meets.{MeetsStarted}
+use Rattle.wx_host_slot.specs.Turns.{HostTurn, SaysOrEnds}
 use Rattle.wx_host_slot.specs.declared.slot.Served.{Served}
 use Rattle.wx_host_slot.specs.declared.slot.Served.TheVariants.{Moved, Rested}
 
@@ -28,6 +29,20 @@ pub record SlotState : Type 0 where
   pub child : Option ChildState
   pub made : ℕ
   pub ended : Bool
+
+-- a slot, by its starter itself: what a starter tells is no data, since it tells a function
+pub record SlotView (P : Type 0) : Type 0 where
+  pub starter : P
+  pub child : Option ChildState
+  pub made : ℕ
+  pub ended : Bool
+
+-- the same slot, by what its starter tells
+abbrev pub slot_of : {P : Type 0} → (P → StarterState) → SlotView P → SlotState
+slot_of state slot = record { starter = state slot.starter; child = slot.child; made = slot.made; ended = slot.ended }
+
+abbrev pub slots_of : {P : Type 0} → (P → StarterState) → List (SlotView P) → List SlotState
+slots_of state slots = map (slot_of state) slots
 
 -- the slot in which nothing was started yet
 abbrev pub waiting_slot : StarterState → SlotState
@@ -110,3 +125,25 @@ turns_left slot = left_with slot.ended slot.child slot.made
 abbrev pub CameTo : HostNo → List Entry → List Entry → SlotState → SlotState → Served → Type 0
 CameTo h before after old new Moved = turns_left new < turns_left old
 CameTo h before after old new Rested = (after ≡ before) × (is_host_ready before h ≡ false) × (new ≡ old)
+
+-- What a host's turn behind those of the endpoints leaves.
+pub record IsServed (writing : Option Writing) (world : WorldLists) (h : HostNo) (before after : List Entry) (old new : SlotState) (served : Served) : Type 0 where
+  pub turn : HostTurn h before after
+  pub stands : Stands writing world after h new
+  pub started : WasStarted new
+  pub came : CameTo h before after old new served
+
+-- What the start of a program leaves: its child runs, and no entry was made; or it could not be started, and the host ended.
+pub record IsStarted (writing : Option Writing) (world : WorldLists) (h : HostNo) (before after : List Entry) (old new : SlotState) : Type 0 where
+  pub stands : Stands writing world after h new
+  pub started : WasStarted new
+  pub less : turns_left new < turns_left old
+  pub turn : new.ended ≡ true → HostTurn h before after
+  pub no_entry : new.ended ≡ false → (after ≡ before) × (new.made ≡ 0)
+
+-- What a host's turn leaves where nobody else can do anything.
+pub record HasSpoken (writing : Option Writing) (world : WorldLists) (h : HostNo) (before after : List Entry) (old new : SlotState) : Type 0 where
+  pub turn : SaysOrEnds h before after
+  pub stands : Stands writing world after h new
+  pub started : WasStarted new
+  pub less : turns_left new < turns_left old

@@ -2,7 +2,9 @@
 #![tactic(auto)]
 
 mod broker_desk;
+#[cfg(test)]
+mod desk_tests;
 mod slot;
 
-pub use broker_desk::BrokerHostDesk;
+pub use broker_desk::{BrokerHostDesk, in_turn_at, out_turn_at};
 pub use slot::{HostSlot, Served};

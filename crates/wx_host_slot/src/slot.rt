@@ -1,14 +1,22 @@
-ghost use Rattle.std.specs.Prelude.{◌≡◌, ◌<◌, false, length, reverse, IfOk, OnOk};
+ghost use Rattle.std.specs.Prelude.{◌≡◌, ◌<◌, false, length, reverse, Option, Some, None, IsSome, IfOk, OnOk};
+ghost use Rattle.wx_id.specs.declared.numbers.EntryNo.{EntryNo};
+ghost use Rattle.wx_machine.specs.declared.entries.TheConstants.{LONGEST_SAID};
 ghost use Rattle.wx_machine.specs.Answers.{IsLegal, is_host_ready};
 ghost use Rattle.wx_machine.specs.Hosts.{hosts};
-ghost use Rattle.wx_host_slot.specs.Slots.{waiting_slot, closing_record, Stands, WasStarted, is_spent_at, turns_left, CameTo};
+ghost use Rattle.wx_host_launch.specs.Records.{Program, Starts, AreFresh};
+ghost use Rattle.wx_host_launch.specs.Turns.{IsInTurn, IsOutTurn};
+ghost use Rattle.wx_host_slot.specs.BrokerDesks.{desk_over};
+ghost use Rattle.wx_host_slot.specs.Journals.{program_of};
+ghost use Rattle.wx_host_slot.specs.Slots.{slot_of, waiting_slot, closing_record, host_limit, Stands, WasStarted, is_spent_at, turns_left, CameTo, IsServed, IsStarted, HasSpoken};
 ghost use Rattle.wx_host_slot.specs.Turns.{HostTurn, SaysOrEnds};
 
+use crate::broker_desk::{in_turn_at, out_turn_at};
 use std::alloc::Global;
 use std::marker::Model;
 use wx_broker::Broker;
-use wx_host_launch::{HostIn, HostOut, Starter};
+use wx_host_launch::{HostIn, HostOut, InTurn, OutTurn, StartFault, Starter};
 use wx_id::{HostNo, NoMemory};
+use wx_machine::{LONGEST_SAID, Reason};
 use wx_native_frame::FrameReader;
 
 /// A started child: the two ends of its pipe, and the reader of what it writes.
@@ -46,18 +54,100 @@ impl<I: HostIn, O: HostOut> Model for Child<I, O> {
 }
 
 impl<P: Starter> Model for HostSlot<P> {
-    ghost use Rattle.std.specs.Option.{option_map};
-    ghost use Rattle.wx_host_slot.specs.Slots.{SlotState};
+    ghost use Rattle.wx_host_slot.specs.Slots.{SlotView};
 
-    ghost Value = { SlotState };
+    ghost Value = { SlotView P };
 
-    ghost view = { λ slot. record { starter = P.state slot.starter; child = slot.child; made = slot.made; ended = slot.ended } };
+    ghost view = { λ slot. record { starter = slot.starter; child = slot.child; made = slot.made; ended = slot.ended } };
+}
+
+/// Starts the program of host h with the origin of its caller.
+fn launch<P: Starter>(
+    starter: &mut P,
+    alloc: Global,
+    broker: &Broker,
+    h: HostNo,
+) -> Result<(P::In, P::Out), StartFault>
+    requires legal { IsLegal broker.now.world broker.now.entries }
+    requires host { h.0 < length (hosts (reverse broker.now.entries)) }
+    ensures known { IsSome (program_of broker.now.world (reverse broker.now.entries) h) }
+    ensures slot { (p : Program) → program_of broker.now.world (reverse broker.now.entries) h ≡ Some p
+        → Starts (P.state starter.old) (P.state starter.new) p.path p.arguments result }
+    ensures ends { (p : Program) → program_of broker.now.world (reverse broker.now.entries) h ≡ Some p
+        → IfOk result (λ ends. AreFresh (P.state starter.old).writing p.path (P.In.state ends.0) (P.Out.state ends.1)) }
+{
+    let Some(view) = broker.host(h) else {
+        unreachable!()
+    };
+    let Some(manifest) = broker.world().host(view.manifest) else {
+        unreachable!()
+    };
+    match manifest.arguments(alloc, &view.caller) {
+        Ok(arguments) => starter.start(manifest.path(), &arguments),
+        Err(NoMemory) => Err(StartFault::NoMemory),
+    }
+}
+
+/// One turn of a child's input.
+fn take_next<I: HostIn, O: HostOut>(
+    child: Child<I, O>,
+    broker: &mut Broker,
+    h: HostNo,
+) -> (Child<I, O>, InTurn)
+    requires legal { IsLegal broker.old.world broker.old.entries }
+    requires host { h.0 < length (hosts (reverse broker.old.entries)) }
+    ensures turn { (lent : Option EntryNo) × IsInTurn (desk_over h broker.old None) (desk_over h broker.new lent) child.input result.0.input result.1 }
+    ensures same { result.0 ≡ record child { input = result.0.input } }
+    ensures legal { IsLegal broker.old.world broker.new.entries }
+    ensures same_world { broker.new.world ≡ broker.old.world }
+{
+    let Child {
+        input,
+        output,
+        reader,
+    } = child;
+    let (input, came) = in_turn_at(broker, h, input);
+    let child = Child {
+        input,
+        output,
+        reader,
+    };
+    (child, came)
+}
+
+/// One turn of a child's output.
+fn hear_next<I: HostIn, O: HostOut>(
+    child: Child<I, O>,
+    broker: &mut Broker,
+    h: HostNo,
+) -> (Child<I, O>, OutTurn)
+    requires legal { IsLegal broker.old.world broker.old.entries }
+    requires host { h.0 < length (hosts (reverse broker.old.entries)) }
+    requires limit { child.reader.limit ≡ LONGEST_SAID }
+    ensures turn { (lent : Option EntryNo) × IsOutTurn (desk_over h broker.old None) (desk_over h broker.new lent) child.reader result.0.reader child.output result.0.output result.1 }
+    ensures same { result.0 ≡ record child { output = result.0.output; reader = result.0.reader } }
+    ensures limit { result.0.reader.limit ≡ LONGEST_SAID }
+    ensures legal { IsLegal broker.old.world broker.new.entries }
+    ensures same_world { broker.new.world ≡ broker.old.world }
+{
+    let Child {
+        input,
+        output,
+        reader,
+    } = child;
+    let ((reader, output), came) = out_turn_at(broker, h, reader, output);
+    let child = Child {
+        input,
+        output,
+        reader,
+    };
+    (child, came)
 }
 
 impl<P: Starter> HostSlot<P> {
     /// The slot of a host that was not started yet.
     pub fn new(starter: P) -> Self
-        ensures { result ≡ waiting_slot (P.state starter) }
+        ensures { slot_of P.state result ≡ waiting_slot (P.state starter) }
     {
         HostSlot {
             starter,
@@ -76,7 +166,7 @@ impl<P: Starter> HostSlot<P> {
 
     /// Whether the host has made as many entries as it may, and has not ended.
     pub fn is_spent(&self) -> bool
-        ensures { result ≡ is_spent_at self.now }
+        ensures { result ≡ is_spent_at (slot_of P.state self.now) }
     {
         self.made >= 65_536 && !self.ended
     }
@@ -91,16 +181,108 @@ impl<P: Starter> HostSlot<P> {
     ) -> Result<Served, NoMemory>
         requires legal { IsLegal broker.old.world broker.old.entries }
         requires host { h.0 < length (hosts (reverse broker.old.entries)) }
-        requires stands { Stands self.old.starter.writing broker.old.world (reverse broker.old.entries) h self.old }
-        requires unspent { is_spent_at self.old ≡ false }
+        requires stands { Stands (P.state self.old.starter).writing broker.old.world (reverse broker.old.entries) h (slot_of P.state self.old) }
+        requires unspent { is_spent_at (slot_of P.state self.old) ≡ false }
         ensures turn { OnOk result (HostTurn h (reverse broker.old.entries) (reverse broker.new.entries)) }
-        ensures stands { OnOk result (Stands self.old.starter.writing broker.old.world (reverse broker.new.entries) h self.new) }
-        ensures started { OnOk result (WasStarted self.new) }
-        ensures came { IfOk result (CameTo h (reverse broker.old.entries) (reverse broker.new.entries) self.old self.new) }
+        ensures stands { OnOk result (Stands (P.state self.old.starter).writing broker.old.world (reverse broker.new.entries) h (slot_of P.state self.new)) }
+        ensures started { OnOk result (WasStarted (slot_of P.state self.new)) }
+        ensures came { IfOk result (CameTo h (reverse broker.old.entries) (reverse broker.new.entries) (slot_of P.state self.old) (slot_of P.state self.new)) }
         ensures legal { OnOk result (IsLegal broker.old.world broker.new.entries) }
         ensures same_world { OnOk result (broker.new.world ≡ broker.old.world) }
     {
-        Err(NoMemory)
+        if self.ended {
+            return Ok(Served::Rested);
+        }
+        if self.child.is_none() {
+            self.start_and_take(alloc, broker, h)
+        } else {
+            self.take(broker, h)
+        }
+    }
+
+    /// Starts the program of host h, or ends the host where that fails.
+    fn start(&mut self, alloc: Global, broker: &mut Broker, h: HostNo) -> Result<(), NoMemory>
+        requires legal { IsLegal broker.old.world broker.old.entries }
+        requires host { h.0 < length (hosts (reverse broker.old.entries)) }
+        requires stands { Stands (P.state self.old.starter).writing broker.old.world (reverse broker.old.entries) h (slot_of P.state self.old) }
+        requires unended { self.old.ended ≡ false }
+        requires none { self.old.child ≡ None }
+        ensures started { OnOk result (IsStarted (P.state self.old.starter).writing broker.old.world h (reverse broker.old.entries) (reverse broker.new.entries) (slot_of P.state self.old) (slot_of P.state self.new)) }
+        ensures legal { OnOk result (IsLegal broker.old.world broker.new.entries) }
+        ensures same_world { OnOk result (broker.new.world ≡ broker.old.world) }
+    {
+        match launch(&mut self.starter, alloc, broker, h) {
+            Ok((input, output)) => {
+                self.child = Some(Child {
+                    input,
+                    output,
+                    reader: FrameReader::new(alloc, LONGEST_SAID as u32),
+                });
+                Ok(())
+            }
+            Err(StartFault::Failed) => {
+                broker.host_ended(h, Reason::StartFailed)?;
+                self.made = 1;
+                self.ended = true;
+                Ok(())
+            }
+            Err(StartFault::NoMemory) => Err(NoMemory),
+        }
+    }
+
+    /// Starts the program of host h; then it takes, where that has something new to tell.
+    fn start_and_take(
+        &mut self,
+        alloc: Global,
+        broker: &mut Broker,
+        h: HostNo,
+    ) -> Result<Served, NoMemory>
+        requires legal { IsLegal broker.old.world broker.old.entries }
+        requires host { h.0 < length (hosts (reverse broker.old.entries)) }
+        requires stands { Stands (P.state self.old.starter).writing broker.old.world (reverse broker.old.entries) h (slot_of P.state self.old) }
+        requires unended { self.old.ended ≡ false }
+        requires none { self.old.child ≡ None }
+        ensures served { IfOk result (λ served. IsServed (P.state self.old.starter).writing broker.old.world h (reverse broker.old.entries) (reverse broker.new.entries) (slot_of P.state self.old) (slot_of P.state self.new) served) }
+        ensures legal { OnOk result (IsLegal broker.old.world broker.new.entries) }
+        ensures same_world { OnOk result (broker.new.world ≡ broker.old.world) }
+    {
+        self.start(alloc, broker, h)?;
+        if !self.ended {
+            self.take(broker, h)?;
+        }
+        Ok(Served::Moved)
+    }
+
+    /// Host h, whose child runs, takes, where that has something new to tell.
+    fn take(&mut self, broker: &mut Broker, h: HostNo) -> Result<Served, NoMemory>
+        requires legal { IsLegal broker.old.world broker.old.entries }
+        requires host { h.0 < length (hosts (reverse broker.old.entries)) }
+        requires stands { Stands (P.state self.old.starter).writing broker.old.world (reverse broker.old.entries) h (slot_of P.state self.old) }
+        requires unended { self.old.ended ≡ false }
+        requires started { IsSome self.old.child }
+        requires room { self.old.made < host_limit }
+        ensures served { IfOk result (λ served. IsServed (P.state self.old.starter).writing broker.old.world h (reverse broker.old.entries) (reverse broker.new.entries) (slot_of P.state self.old) (slot_of P.state self.new) served) }
+        ensures legal { OnOk result (IsLegal broker.old.world broker.new.entries) }
+        ensures same_world { OnOk result (broker.new.world ≡ broker.old.world) }
+    {
+        let Some(child) = self.child.take() else {
+            unreachable!()
+        };
+        let (child, came) = take_next(child, broker, h);
+        self.child = Some(child);
+        match came {
+            InTurn::Moved | InTurn::Closed => {
+                self.made += 1;
+                Ok(Served::Moved)
+            }
+            InTurn::Waits => Ok(Served::Rested),
+            InTurn::Ended => {
+                self.made += 2;
+                self.ended = true;
+                Ok(Served::Moved)
+            }
+            InTurn::NoMemory => Err(NoMemory),
+        }
     }
 
     /// The turn of host h where nobody else can do anything: what its child writes is read up to the end of a frame, and
@@ -108,24 +290,41 @@ impl<P: Starter> HostSlot<P> {
     pub fn hear(&mut self, broker: &mut Broker, h: HostNo) -> Result<(), NoMemory>
         requires legal { IsLegal broker.old.world broker.old.entries }
         requires host { h.0 < length (hosts (reverse broker.old.entries)) }
-        requires stands { Stands self.old.starter.writing broker.old.world (reverse broker.old.entries) h self.old }
-        requires unspent { is_spent_at self.old ≡ false }
+        requires stands { Stands (P.state self.old.starter).writing broker.old.world (reverse broker.old.entries) h (slot_of P.state self.old) }
+        requires unspent { is_spent_at (slot_of P.state self.old) ≡ false }
         requires unended { self.old.ended ≡ false }
-        requires started { WasStarted self.old }
+        requires started { WasStarted (slot_of P.state self.old) }
         requires none_to_take { is_host_ready (reverse broker.old.entries) h ≡ false }
         ensures turn { OnOk result (SaysOrEnds h (reverse broker.old.entries) (reverse broker.new.entries)) }
-        ensures stands { OnOk result (Stands self.old.starter.writing broker.old.world (reverse broker.new.entries) h self.new) }
-        ensures started { OnOk result (WasStarted self.new) }
-        ensures less { OnOk result (turns_left self.new < turns_left self.old) }
+        ensures stands { OnOk result (Stands (P.state self.old.starter).writing broker.old.world (reverse broker.new.entries) h (slot_of P.state self.new)) }
+        ensures started { OnOk result (WasStarted (slot_of P.state self.new)) }
+        ensures less { OnOk result (turns_left (slot_of P.state self.new) < turns_left (slot_of P.state self.old)) }
         ensures legal { OnOk result (IsLegal broker.old.world broker.new.entries) }
         ensures same_world { OnOk result (broker.new.world ≡ broker.old.world) }
     {
-        Err(NoMemory)
+        let Some(child) = self.child.take() else {
+            unreachable!()
+        };
+        let (child, came) = hear_next(child, broker, h);
+        self.child = Some(child);
+        match came {
+            OutTurn::Moved => {
+                self.made += 1;
+                Ok(())
+            }
+            OutTurn::Waits => unreachable!(),
+            OutTurn::Ended => {
+                self.made += 1;
+                self.ended = true;
+                Ok(())
+            }
+            OutTurn::NoMemory => Err(NoMemory),
+        }
     }
 
     /// Finishes the child, where one was started: the slot's starter, with the host's record.
     pub fn finish(self) -> P
-        ensures { (P.state result).slot ≡ closing_record self }
+        ensures { (P.state result).slot ≡ closing_record (slot_of P.state self) }
     {
         let HostSlot {
             mut starter,
@@ -133,12 +332,12 @@ impl<P: Starter> HostSlot<P> {
             made: _,
             ended: _,
         } = self;
-        if let Some(Child {
-            input,
-            output,
-            reader: _,
-        }) = child
-        {
+        if let Some(child) = child {
+            let Child {
+                input,
+                output,
+                reader: _,
+            } = child;
             starter.finish(input, output);
         }
         starter

@@ -1,5 +1,7 @@
 ghost use Rattle.std.specs.Prelude.{◌≡◌, List, Ok, ◌+◌, ◌<◌, ◌≤◌, [], ◌∷◌, ◌++◌, length, IfOk, IfErr, OnOk, OnErr, IsOk, slice_get, option_copied, ◌==◌, reverse};
-ghost use Rattle.std.specs.Option.{option_and_then};
+ghost use Rattle.std.specs.Option.{option_and_then, option_map, IfSome};
+ghost use Rattle.wx_external.specs.World.{WorldLists};
+ghost use Rattle.wx_machine.specs.Answers.{IsLegal};
 ghost use Rattle.wx_machine.specs.Carried.{text_in};
 ghost use Rattle.wx_machine.specs.declared.entries.Entry.{Entry};
 ghost use Rattle.wx_journal_read.specs.Faults.{IsFault};
@@ -7,6 +9,8 @@ ghost use Rattle.wx_journal_read.specs.Fits.{JournalFits};
 ghost use Rattle.wx_journal_read.specs.Gives.{GivesWhole, IfBad};
 ghost use Rattle.wx_journal_text.specs.Text.{journal_text};
 ghost use Rattle.wx_journal.specs.Journal.{IsTextOfNoOther};
+ghost use Rattle.wx_laws.specs.Keeping.{KeepsChannel, KeepsRequest};
+ghost use Rattle.wx_reports.specs.Counts.{given_on, taken_on};
 ghost use Rattle.wx_reports.specs.Reports.{port_report, request_report};
 
 use std::alloc::Global;
@@ -129,18 +133,24 @@ impl Journal {
         self.entries.as_slice()
     }
 
-    /// What the journal tells of channel k, none where there is no such channel.
+    /// What the journal tells of channel k, none where there is no such channel. Where it is legal the laws of
+    /// messaging hold of the channel, with the entry that the report says closed it.
     pub fn port_report(&self, k: ChannelNo) -> Option<PortReport>
         ensures value { result ≡ port_report (reverse self.now.entries) k.0 }
+        ensures laws { (world : WorldLists) → IsLegal world self.now.entries → IfSome result (λ report. KeepsChannel self.now.entries k.0 (option_map (λ n. n.0) report.closed)) }
+        ensures given { (world : WorldLists) → IsLegal world self.now.entries → IfSome result (λ report. report.posted ≡ given_on (reverse self.now.entries) k.0) }
+        ensures taken { (world : WorldLists) → IsLegal world self.now.entries → IfSome result (λ report. report.taken ≡ taken_on (reverse self.now.entries) k.0) }
     {
-        port_report(&self.entries, k)
+        port_report(self.entries(), k)
     }
 
-    /// What the journal tells of request r, none where there is no such request.
+    /// What the journal tells of request r, none where there is no such request. Where it is legal the laws of
+    /// messaging hold of the request, with the entry that the report says settled it.
     pub fn request_report(&self, r: RequestNo) -> Option<RequestReport>
         ensures value { result ≡ request_report (reverse self.now.entries) r.0 }
+        ensures laws { (world : WorldLists) → IsLegal world self.now.entries → KeepsRequest self.now.entries r.0 }
     {
-        request_report(&self.entries, r)
+        request_report(self.entries(), r)
     }
 
     /// Reads the journal whose text the bytes are. Whether the broker would answer so is not asked.

@@ -1,4 +1,4 @@
-use crate::{Answer, Call, Entry, Journal, JsonText, Who};
+use crate::{Answer, Call, Entry, Journal, JsonText, PortReport, RequestReport, Who};
 use std::alloc::Global;
 use std::test::Fail;
 use wx_context::{Context, PagePath, Target};
@@ -70,6 +70,45 @@ fn journal_and_text(rt: HostRuntime) -> Result<(), Fail> {
             }
         }
         None => assert!(rt; false),
+    }
+    Ok(())
+}
+
+fn one_channel(alloc: Global) -> Option<Journal> {
+    let mut journal = Journal::new(alloc);
+    let enter = Call::Enter(page(alloc)?);
+    push(&mut journal, 0, enter, Answer::Entered(ContextNo(0)))?;
+    let connect = Call::Connect(Target::Own, Utf8Text::new(alloc, "a").ok()?);
+    let (channel, opened) = (ChannelNo(0), Answer::Channel(ChannelNo(0)));
+    push(&mut journal, 0, connect, opened)?;
+    let post = Call::Post(channel, json(alloc, b"1")?);
+    push(&mut journal, 0, post, Answer::Posted)?;
+    push(&mut journal, 0, Call::Disconnect(channel), Answer::Done)?;
+    Some(journal)
+}
+
+#[test]
+fn reports(rt: HostRuntime) -> Result<(), Fail> {
+    match (seven_entries(rt.alloc()), one_channel(rt.alloc())) {
+        (Some(seven), Some(one)) => {
+            assert_eq!(rt; seven.port_report(ChannelNo(0)), None);
+            assert_eq!(rt; seven.request_report(RequestNo(3)), None);
+            assert_eq!(rt;
+                seven.request_report(RequestNo(0)),
+                Some(RequestReport {
+                    opened: EntryNo(3),
+                    settled: None
+                })
+            );
+            let report = PortReport {
+                opened: EntryNo(1),
+                closed: Some(EntryNo(3)),
+                posted: 1,
+                taken: 0,
+            };
+            assert_eq!(rt; one.port_report(ChannelNo(0)), Some(report));
+        }
+        _ => assert!(rt; false),
     }
     Ok(())
 }

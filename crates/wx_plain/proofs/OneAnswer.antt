@@ -1,5 +1,5 @@
 -- A command has at most one answer.
-use Rattle.std.proofs.Common.{◌≡◌, ◌∙◌, ◌<◌, ◌^◌, ℕ, List, [], ◌++◌, length, Result, Ok, Err, Option, Some, refl, sym, ap, ap₂, subst, arith, inl, inr, lit<}
+use Rattle.std.proofs.Common.{◌≡◌, ◌∙◌, ◌<◌, ◌≤◌, ◌^◌, ℕ, true, false, cond, List, [], ◌++◌, length, nat_lt, Result, Ok, Err, Option, Some, None, refl, sym, ap, ap₂, subst, arith, inl, inr, lit<}
 use Rattle.url.specs.Parts.{Parts}
 use Rattle.wx_match_pattern.specs.Pattern.{PatternParts}
 use Rattle.wx_native_frame.specs.declared.FrameFault.{FrameFault}
@@ -7,16 +7,19 @@ use Rattle.wx_native_frame.specs.declared.FrameFault.TheVariants as fault
 use Rattle.wx_native_frame.specs.Frames.{IsTrouble}
 use Rattle.wx_native_frame.specs.Splits.{IsSplit}
 use Rattle.wx_native_frame.proofs.FrameLaws.{short_no_trouble}
-use Rattle.wx_outside.specs.Shelf.{Files, Content, present, absent, too_large, Tells, content_at}
+use Rattle.std.specs.FinMap as map
+use Rattle.std.proofs.lemmas.Bool.Decides.{nat_tests}
+use Rattle.wx_outside.specs.Shelf.{Files, Content, present, absent, too_large, limit, Tells, content_at, content_of, IsWithinLimit}
 use Rattle.wx_status.specs.declared.status.InputKind.{InputKind}
-use Rattle.wx_words.specs.Words.{PlainCommand, matching, framing}
+use Rattle.wx_words.specs.Words.{PlainCommand, matching, framing, reporting}
 use Rattle.wx_plain.specs.declared.frames.FramesEnd.{FramesEnd}
 use Rattle.wx_plain.specs.declared.frames.FramesEnd.TheVariants.{Whole, TooLong, BadJson, Cut}
 use Rattle.wx_plain.specs.Output.{Output}
 use Rattle.wx_plain.specs.Matching.{pattern_in, url_in, MatchAnswers}
 use Rattle.wx_plain.specs.Framing.{frame_limit, frame_lines, end_line, is_whole, EndsBy, IsFramesOutput}
-use Rattle.wx_plain.specs.Answers.{FramesAnswers, Answers}
+use Rattle.wx_plain.specs.Answers.{FramesAnswers, ReportAnswers, FileAnswers, ToldAnswers, Answers}
 use Rattle.wx_plain.specs.Complete.{IsToldTo}
+use Rattle.wx_plain.proofs.OneReport.{DifferentTextsLaw, one_report}
 
 -- what `one_split` and `one_answer` ensure
 abbrev pub OneSplitLaw : Type 0
@@ -76,16 +79,38 @@ one_output split trouble bytes a b h k =
 abbrev answer_with : Output → Result Output InputKind
 answer_with output = Ok output
 
-one_file : OneSplitLaw → OneTroubleLaw → (content : Content) (a b : Result Output InputKind) → FramesAnswers content a → FramesAnswers content b → a ≡ b
-one_file split trouble absent a b h k = h ∙ sym k
-one_file split trouble too_large a b h k = h ∙ sym k
-one_file split trouble (present bytes) a b h k = h.1 ∙ ap answer_with (one_output split trouble bytes h.0 k.0 h.2 k.2) ∙ sym k.1
+one_frames : OneSplitLaw → OneTroubleLaw → (bytes : List ℕ) (a b : Result Output InputKind) → FramesAnswers bytes a → FramesAnswers bytes b → a ≡ b
+one_frames split trouble bytes a b h k = h.1 ∙ ap answer_with (one_output split trouble bytes h.0 k.0 h.2 k.2) ∙ sym k.1
+
+-- ---- what the shelf tells
+
+within_limit : (found : Option (List ℕ)) → IsWithinLimit (content_of found)
+within_limit None = tt
+within_limit (Some bytes) =
+    elim (nat_lt limit (length bytes)) as (λ t. nat_lt limit (length bytes) ≡ t → IsWithinLimit (cond t too_large (present bytes))) [
+      | true ↦ λ is. tt
+      | false ↦ λ is. grind (arith, nat_tests)
+    ] refl
 
 told_content : (files : Option Files) (all : Files) (file : List ℕ) (content : Content) → files ≡ Some all → Tells files file content → content ≡ content_at all file
 told_content files all file content is tells = subst (λ (f : Option Files). Tells f file content) is tells
 
-pub one_answer_of : OneSplitLaw → OneTroubleLaw → (files : Option Files) (command : PlainCommand) (a b : Result Output InputKind) → IsToldTo command files → Answers files command a → Answers files command b → a ≡ b
-one_answer_of split trouble files (matching pattern url) a b told h k = one_match (pattern_in pattern) (url_in url) a b h k
-one_answer_of split trouble files (framing file) a b told h k =
-    let same : h.0 ≡ k.0 = told_content files told.0 file h.0 told.1 h.1 ∙ sym (told_content files told.0 file k.0 told.1 k.1) in
-    one_file split trouble k.0 a b (subst (λ (c : Content). FramesAnswers c a) same h.2) k.2
+-- bytes within the limit have at most one answer
+abbrev HasOne : (List ℕ → Result Output InputKind → Type 0) → Type 0
+HasOne OfBytes = (bytes : List ℕ) (a b : Result Output InputKind) → length bytes ≤ limit → OfBytes bytes a → OfBytes bytes b → a ≡ b
+
+one_file : (OfBytes : List ℕ → Result Output InputKind → Type 0) → HasOne OfBytes → (content : Content) (a b : Result Output InputKind) → IsWithinLimit content → FileAnswers OfBytes content a → FileAnswers OfBytes content b → a ≡ b
+one_file OfBytes one absent a b within h k = h ∙ sym k
+one_file OfBytes one too_large a b within h k = h ∙ sym k
+one_file OfBytes one (present bytes) a b within h k = one bytes a b within h k
+
+one_told : (OfBytes : List ℕ → Result Output InputKind → Type 0) → HasOne OfBytes → (files : Option Files) (all : Files) (file : List ℕ) (a b : Result Output InputKind) → files ≡ Some all → ToldAnswers OfBytes files file a → ToldAnswers OfBytes files file b → a ≡ b
+one_told OfBytes one files all file a b is h k =
+    let of_h = told_content files all file h.0 is h.1 in
+    let of_k = told_content files all file k.0 is k.1 in
+    one_file OfBytes one (content_at all file) a b (within_limit (map.get all file)) (subst (λ (c : Content). FileAnswers OfBytes c a) of_h h.2) (subst (λ (c : Content). FileAnswers OfBytes c b) of_k k.2)
+
+pub one_answer_of : OneSplitLaw → OneTroubleLaw → DifferentTextsLaw → (files : Option Files) (command : PlainCommand) (a b : Result Output InputKind) → IsToldTo command files → Answers files command a → Answers files command b → a ≡ b
+one_answer_of split trouble texts files (matching pattern url) a b told h k = one_match (pattern_in pattern) (url_in url) a b h k
+one_answer_of split trouble texts files (framing file) a b told h k = one_told FramesAnswers (λ bytes a b within h k. one_frames split trouble bytes a b h k) files told.0 file a b told.1 h k
+one_answer_of split trouble texts files (reporting file) a b told h k = one_told ReportAnswers (one_report texts) files told.0 file a b told.1 h k

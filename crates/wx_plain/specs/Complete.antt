@@ -5,7 +5,7 @@ use Rattle.wx_outside.specs.Shelf.{Files}
 use Rattle.wx_status.specs.declared.status.Status.{Status}
 use Rattle.wx_status.specs.declared.status.Status.TheVariants.{NoMemory}
 use Rattle.wx_status.specs.Changes.{ShelfChange, SinkChange, HasFailed}
-use Rattle.wx_words.specs.Words.{PlainCommand, matching, framing, plain_command_of}
+use Rattle.wx_words.specs.Words.{PlainCommand, matching, framing, reporting, plain_command_of}
 use Rattle.wx_plain.specs.Output.{Output, answer_status}
 use Rattle.wx_plain.specs.Answers.{Answers}
 
@@ -13,6 +13,7 @@ use Rattle.wx_plain.specs.Answers.{Answers}
 abbrev pub IsToldTo : PlainCommand → Option Files → Type 0
 IsToldTo (matching pattern url) told = Unit {0}
 IsToldTo (framing file) told = (files : Files) × (told ≡ Some files)
+IsToldTo (reporting file) told = (files : Files) × (told ≡ Some files)
 
 -- The words ask for a command, this is its output by what the shelf tells, and nothing failed in the call.
 pub record NothingIsWrong (words : List (List ℕ)) (shelf : ShelfChange) (out err : SinkChange) (output : Output) : Type 0 where

@@ -1,18 +1,26 @@
 -- What a call for a command that makes no run answers, and why.
-use Rattle.std.specs.Prelude.{◌≡◌, ℕ, List, Some, None, Result, Ok, Err}
+use Rattle.std.specs.Prelude.{◌≡◌, ℕ, List, Option, Some, None, Result, Ok, Err}
 use Rattle.wx_outside.specs.Causes.{Rose}
 use Rattle.wx_status.specs.declared.status.Status.{Status}
 use Rattle.wx_status.specs.declared.status.InputKind.{InputKind}
 use Rattle.wx_status.specs.Changes.{ShelfChange, SinkChange}
-use Rattle.wx_words.specs.Words.{PlainCommand, framing, plain_command_of}
+use Rattle.wx_words.specs.Words.{PlainCommand, matching, framing, reporting, plain_command_of}
 use Rattle.wx_plain.specs.Output.{Output}
 use Rattle.wx_plain.specs.Answers.{Answers}
 use Rattle.wx_plain.specs.Verdict.{Verdict, usage, read_fault, refused, no_memory, answered}
 use Rattle.wx_plain.specs.Told.{Told}
 
--- The words ask for the frames of this file, and a read failed in the call.
+-- the file that a command reads
+abbrev pub file_of : PlainCommand → Option (List ℕ)
+file_of (matching pattern url) = None
+file_of (framing file) = Some file
+file_of (reporting file) = Some file
+
+-- The words ask for a command that reads this file, and a read failed in the call.
 pub record ReadFailed (words : List (List ℕ)) (shelf : ShelfChange) (file : List ℕ) : Type 0 where
-  pub asked : plain_command_of words ≡ Some (framing file)
+  pub command : PlainCommand
+  pub asked : plain_command_of words ≡ Some command
+  pub reads : file_of command ≡ Some file
   pub failed : Rose shelf.faults_before shelf.faults_after
 
 -- The words ask for a command, and this is what it answers, as far as the shelf tells.

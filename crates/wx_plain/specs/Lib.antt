@@ -1,6 +1,7 @@
 pub mod Output
 pub mod Matching
 pub mod Framing
+pub mod Reporting
 pub mod Answers
 pub mod Verdict
 pub mod View

@@ -1,13 +1,12 @@
 ghost use Rattle.std.specs.Prelude.{◌≡◌, ◌++◌, ◌<◌, [], length, IfOk, OnOk, codes, decimal};
 ghost use Rattle.wx_native_frame.specs.Frames.{IsUnderWay};
-ghost use Rattle.wx_outside.specs.Shelf.{present};
 ghost use Rattle.wx_plain.specs.Answers.{FramesAnswers};
 ghost use Rattle.wx_plain.specs.Framing as framing;
 ghost use Rattle.wx_plain.specs.View.{Says};
 ghost use Rattle.wx_plain.specs.Writing.{AllWritten, IsFirst, IsReady};
 
+use crate::put::{put, put_number};
 use crate::verdict::{Output, Refusal};
-use itoa::Buffer;
 use std::alloc::{AllocError, Global};
 use wx_id::NoMemory;
 use wx_json::{JsonFault, JsonKind};
@@ -35,19 +34,6 @@ enum First {
     Frame { used: usize },
     /// No frame.
     End(FramesEnd),
-}
-
-fn put(out: &mut Vec<u8>, bytes: &[u8]) -> Result<(), AllocError>
-    ensures { OnOk result (out.new.items ≡ out.old.items ++ bytes.now) }
-{
-    out.extend_from_slice(bytes)
-}
-
-fn put_number(out: &mut Vec<u8>, n: u64) -> Result<(), AllocError>
-    ensures { OnOk result (out.new.items ≡ out.old.items ++ decimal n) }
-{
-    let mut buffer = Buffer::new();
-    put(out, buffer.format(n).as_bytes())
 }
 
 /// The line of a frame.
@@ -178,7 +164,7 @@ fn is_whole(end: FramesEnd) -> bool
 
 /// What `frames` answers of the bytes of its file.
 pub(crate) fn answer(alloc: Global, bytes: &[u8]) -> Result<Output, Refusal>
-    ensures { Says (FramesAnswers (present bytes.now)) result }
+    ensures { Says (FramesAnswers bytes.now) result }
 {
     let mut text = Vec::new(alloc);
     let end = match put_frames(alloc, bytes, &mut text) {

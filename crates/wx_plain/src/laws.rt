@@ -6,6 +6,7 @@ ghost use Rattle.wx_plain.specs.Answers.{Answers};
 ghost use Rattle.wx_plain.specs.Complete.{IsToldTo};
 ghost use Rattle.wx_plain.specs.Output.{Output};
 
+use wx_journal_read::laws::different_texts;
 use wx_native_frame::{one_answer, one_split};
 
 /// The law of answers: a command has at most one, where what it reads is told. It does nothing when it runs.
@@ -15,4 +16,5 @@ pub fn one_plain_answer()
 {
     one_split();
     one_answer();
+    different_texts();
 }

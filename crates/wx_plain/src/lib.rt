@@ -4,6 +4,8 @@
 mod frames;
 mod laws;
 mod matching;
+mod put;
+mod report;
 mod tell;
 #[cfg(test)]
 mod tests;

@@ -2,6 +2,7 @@ use crate::wx_plain;
 use std::alloc::{AllocError, Global};
 use std::process::Abort;
 use std::test::Fail;
+use wx_journal::{JournalFault, JournalKind};
 use wx_match_pattern::{PatternFault, PatternKind};
 use wx_outside::{MemoryFile, MemoryShelf, MemorySink};
 use wx_status::{InputKind, Status};
@@ -203,6 +204,102 @@ fn frames_and_their_end(rt: HostRuntime) -> Result<(), Fail> {
     Ok(())
 }
 
+/// Journals, and what they tell.
+fn journals() -> &'static [(&'static [u8], &'static str)] {
+    &[
+        // One connection and one message.
+        (
+            b"wx journal 1 chrome\nc0 enter page aaaaaaaaaaaaaaaaaaaaaaaaaaaaaaaa 2:/q -> context 0\nc1 enter page aaaaaaaaaaaaaaaaaaaaaaaaaaaaaaaa 2:/p -> context 1\nc1 listen c--- -> done\nc0 connect own 0: -> channel 0\nc1 take -> connected 0 3\nc0 post 0 1:1 -> posted\nc1 take -> message 0 5\nc0 disconnect 0 -> done\nc1 take -> disconnected 0 7\nc0 leave -> done\nc1 leave -> done\n",
+            "channel 0 opened 3 closed 7 posted 1 taken 1\n",
+        ),
+        // The first of two replies.
+        (
+            b"wx journal 1 chrome\nc0 enter page aaaaaaaaaaaaaaaaaaaaaaaaaaaaaaaa 2:/s -> context 0\nc1 enter page aaaaaaaaaaaaaaaaaaaaaaaaaaaaaaaa 2:/p -> context 1\nc1 listen -m-- -> done\nc2 enter page aaaaaaaaaaaaaaaaaaaaaaaaaaaaaaaa 2:/q -> context 2\nc2 listen -m-- -> done\nc0 send own 4:\"hi\" -> request 0\nc1 take -> asked 0 5\nc2 take -> asked 0 5\nc1 reply 0 1:1 -> first\nc2 reply 0 1:2 -> late\nc0 take -> replied 0 8\nc1 leave -> done\nc2 decline 0 -> late\nc0 leave -> done\nc2 leave -> done\n",
+            "request 0 opened 5 settled 8 first\n",
+        ),
+        // One receiver declines, and the other leaves.
+        (
+            b"wx journal 1 chrome\nc0 enter page aaaaaaaaaaaaaaaaaaaaaaaaaaaaaaaa 2:/s -> context 0\nc1 enter page aaaaaaaaaaaaaaaaaaaaaaaaaaaaaaaa 2:/p -> context 1\nc1 listen -m-- -> done\nc2 enter page aaaaaaaaaaaaaaaaaaaaaaaaaaaaaaaa 2:/q -> context 2\nc2 listen -m-- -> done\nc0 send own 4:\"hi\" -> request 0\nc1 take -> asked 0 5\nc2 take -> asked 0 5\nc1 decline 0 -> done\nc2 leave -> done\nc0 take -> closed 0 9\nc1 leave -> done\nc0 leave -> done\n",
+            "request 0 opened 5 settled 9 closed\n",
+        ),
+        // A host replies.
+        (
+            b"wx journal 1 chrome\nc0 enter page aaaaaaaaaaaaaaaaaaaaaaaaaaaaaaaa 2:/p -> context 0\nc0 send_native 1:e 1:0 -> request 0\nh0 host_take -> text 1\nh0 host_said 1:1 -> passed\nc0 take -> replied 0 3\nh0 host_take -> end\nc0 leave -> done\nh0 host_said 1:2 -> ignored\nh0 host_ended exited -> done\n",
+            "request 0 opened 1 settled 3 first\n",
+        ),
+        // A host does not start.
+        (
+            b"wx journal 1 chrome\nc0 enter page aaaaaaaaaaaaaaaaaaaaaaaaaaaaaaaa 2:/p -> context 0\nc0 send_native 1:e 1:0 -> request 0\nh0 host_ended start_failed -> done\nc0 take -> closed 0 2\nc0 leave -> done\n",
+            "request 0 opened 1 settled 2 closed\n",
+        ),
+        // What was posted is taken behind the leave of who posted it.
+        (
+            b"wx journal 1 chrome\nc0 enter page aaaaaaaaaaaaaaaaaaaaaaaaaaaaaaaa 2:/q -> context 0\nc1 enter page aaaaaaaaaaaaaaaaaaaaaaaaaaaaaaaa 2:/p -> context 1\nc1 listen c--- -> done\nc0 connect own 0: -> channel 0\nc1 listen c--- -> done\nc0 post 0 1:1 -> posted\nc1 listen c--- -> done\nc0 post 0 1:2 -> posted\nc1 listen c--- -> done\nc0 post 0 1:3 -> posted\nc1 listen c--- -> done\nc0 leave -> done\nc1 listen c--- -> done\nc1 take -> connected 0 3\nc1 take -> message 0 5\nc1 take -> message 0 7\nc1 take -> message 0 9\nc1 take -> disconnected 0 11\nc1 take -> empty\nc1 leave -> done\n",
+            "channel 0 opened 3 closed 11 posted 3 taken 3\n",
+        ),
+        // What waits when its receiver disconnects is not taken.
+        (
+            b"wx journal 1 chrome\nc0 enter page aaaaaaaaaaaaaaaaaaaaaaaaaaaaaaaa 2:/q -> context 0\nc1 enter page aaaaaaaaaaaaaaaaaaaaaaaaaaaaaaaa 2:/p -> context 1\nc1 listen c--- -> done\nc0 connect own 0: -> channel 0\nc1 listen c--- -> done\nc0 post 0 1:1 -> posted\nc1 listen c--- -> done\nc0 post 0 1:2 -> posted\nc1 take -> connected 0 3\nc0 post 0 1:3 -> posted\nc1 disconnect 0 -> done\nc0 leave -> done\nc1 take -> empty\nc1 leave -> done\n",
+            "channel 0 opened 3 closed 10 posted 3 taken 0\n",
+        ),
+        // A journal that is not legal: nobody came in, and the numbers that were answered count for nothing.
+        (
+            b"wx journal 1 chrome\nc0 connect own 0: -> channel 7\nc1 send own 1:1 -> request 3\nc2 send own 1:1 -> request 3\nc0 post 0 1:1 -> posted\nc1 leave -> gone\n",
+            "channel 0 opened 0 closed - posted 1 taken 0\nrequest 0 opened 1 settled 4 left\nrequest 1 opened 2 settled - -\n",
+        ),
+        // Nothing to tell.
+        (b"wx journal 1 chrome\n", ""),
+    ]
+}
+
+#[test]
+fn reports(rt: HostRuntime) -> Result<(), Fail> {
+    for (bytes, report) in journals() {
+        let expected = (Status::Done, *report, "");
+        judge(&rt, rt.alloc(), &["report", "f"], bytes, expected)?;
+    }
+    // Where there is nothing to tell, nothing is written.
+    let mut shelf = shelf_of(
+        rt.alloc(),
+        Vec::from_slice(rt.alloc(), b"wx journal 1 chrome\n")?,
+    )?;
+    let mut out = sink_of(rt.alloc(), 0);
+    let mut err = sink_of(rt.alloc(), 0);
+    let status = answer(rt.alloc(), &["report", "f"], &mut shelf, &mut out, &mut err)?;
+    assert_eq!(rt; status, Status::Done);
+    assert_eq!(rt; out.writes, 0);
+    Ok(())
+}
+
+/// A refused journal.
+fn no_journal<'a>(place: u64, kind: JournalKind, line: &'a str) -> Expected<'a> {
+    (
+        Status::InputRefused(InputKind::Journal(JournalFault { place, kind })),
+        "",
+        line,
+    )
+}
+
+#[test]
+fn no_journals(rt: HostRuntime) -> Result<(), Fail> {
+    let line = no_journal(
+        20,
+        JournalKind::Line,
+        "wx: input refused: journal 20 line\n",
+    );
+    let head = no_journal(0, JournalKind::Head, "wx: input refused: journal 0 head\n");
+    let cases: [(&[u8], Expected); 4] = [
+        (b"wx journal 1 chrome\nc0 take -> empty", line),
+        (b"wx journal 1 chrome\nc00 take -> empty\n", line),
+        (b"c0 take -> empty\n", head),
+        (b"", head),
+    ];
+    for (bytes, expected) in cases {
+        judge(&rt, rt.alloc(), &["report", "f"], bytes, expected)?;
+    }
+    Ok(())
+}
+
 #[test]
 fn files_that_are_refused(rt: HostRuntime) -> Result<(), Fail> {
     let alloc = rt.alloc();
@@ -213,6 +310,7 @@ fn files_that_are_refused(rt: HostRuntime) -> Result<(), Fail> {
     );
     judge(&rt, alloc, &["frames", "g"], b"", missing)?;
     judge(&rt, alloc, &["frames", "-"], b"", missing)?;
+    judge(&rt, alloc, &["report", "g"], b"", missing)?;
     let mut shelf = shelf_of(alloc, vec![in alloc; 0u8; 67108865]?)?;
     let mut out = sink_of(alloc, AMPLE);
     let mut err = sink_of(alloc, AMPLE);
@@ -228,7 +326,7 @@ fn files_that_are_refused(rt: HostRuntime) -> Result<(), Fail> {
 
 #[test]
 fn words_of_no_form(rt: HostRuntime) -> Result<(), Fail> {
-    let cases: [&[&str]; 11] = [
+    let cases: [&[&str]; 12] = [
         &[],
         &["match"],
         &["match", "<all_urls>"],
@@ -237,6 +335,7 @@ fn words_of_no_form(rt: HostRuntime) -> Result<(), Fail> {
         &["frames"],
         &["frames", "f", "--rounds"],
         &["frames", "--help"],
+        &["report", "f", "g"],
         &["--version"],
         &["run", "f"],
         &["storm", "5"],

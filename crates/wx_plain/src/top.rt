@@ -3,17 +3,17 @@ ghost use Rattle.wx_outside.specs.Causes.{Rose};
 ghost use Rattle.wx_outside.specs.Shelf.{content};
 ghost use Rattle.wx_status.specs.declared.status.Status.TheVariants as status;
 ghost use Rattle.wx_words.specs.Words as forms;
-ghost use Rattle.wx_plain.specs.Answers.{FramesAnswers};
+ghost use Rattle.wx_plain.specs.Answers.{FileAnswers};
 ghost use Rattle.wx_plain.specs.Complete.{IsPlainComplete};
 ghost use Rattle.wx_plain.specs.Headline.{Judged, PlainHeadline};
-ghost use Rattle.wx_plain.specs.Judging.{ComesTo, FileJudged};
+ghost use Rattle.wx_plain.specs.Judging.{BytesAnswers, ComesTo, FileJudged};
 ghost use Rattle.wx_plain.specs.Matching as matches;
-ghost use Rattle.wx_plain.specs.View.{verdict_in, verdict_view};
+ghost use Rattle.wx_plain.specs.View.{Says, verdict_in, verdict_view};
 
 use crate::laws::one_plain_answer;
 use crate::tell::tell;
 use crate::verdict::{Output, Refusal, Verdict};
-use crate::{frames, matching};
+use crate::{frames, matching, report};
 use std::alloc::Global;
 use wx_id::NoMemory;
 use wx_outside::{Found, Shelf, ShelfFault, Sink};
@@ -39,28 +39,52 @@ fn judge_match<'a>(alloc: Global, pattern: &str, url: &str) -> Verdict<'a>
     verdict_of(matching::answer(alloc, pattern, url))
 }
 
+/// What is asked of a file.
+#[derive(Clone, Copy)]
+enum Asked {
+    /// Its frames.
+    Frames,
+    /// What the journal in it tells.
+    Report,
+}
+
+/// What a file's bytes answer.
+fn bytes_answer(alloc: Global, asked: Asked, bytes: &[u8]) -> Result<Output, Refusal>
+    ensures { Says (BytesAnswers asked bytes.now) result }
+{
+    match asked {
+        Asked::Frames => frames::answer(alloc, bytes),
+        Asked::Report => report::answer(alloc, bytes),
+    }
+}
+
 /// What was found under the file's name comes to.
 #[tactic(auto, using(crate::proofs::Judgings::comes_to))]
-fn judge_found<'a>(alloc: Global, found: Found) -> Verdict<'a>
-    ensures { ComesTo (FramesAnswers (content found)) (verdict_view result) }
+fn judge_found<'a>(alloc: Global, asked: Asked, found: Found) -> Verdict<'a>
+    ensures { ComesTo (FileAnswers (BytesAnswers asked) (content found)) (verdict_view result) }
 {
     match found {
-        Found::Bytes(bytes) => verdict_of(frames::answer(alloc, &bytes)),
+        Found::Bytes(bytes) => verdict_of(bytes_answer(alloc, asked, &bytes)),
         Found::Missing => Verdict::Refused(InputKind::Missing),
         Found::Large => Verdict::Refused(InputKind::Large),
     }
 }
 
-/// What the call answers for the frames of a file.
+/// What the call answers for a file.
 #[tactic(auto, using(crate::proofs::Judgings::file_judged))]
-fn judge_file<'a, F: Shelf>(alloc: Global, file: &'a str, shelf: &mut F) -> Verdict<'a>
-    ensures judged { FileJudged file.entry.now
+fn judge_file<'a, F: Shelf>(
+    alloc: Global,
+    asked: Asked,
+    file: &'a str,
+    shelf: &mut F,
+) -> Verdict<'a>
+    ensures judged { FileJudged asked file.entry.now
         (record { files = F.files shelf.old; faults_before = F.faults shelf.old; faults_after = F.faults shelf.new })
         (verdict_view result) }
     ensures unchanged { F.files shelf.new ≡ F.files shelf.old }
 {
     match shelf.read(alloc, file) {
-        Ok(found) => judge_found(alloc, found),
+        Ok(found) => judge_found(alloc, asked, found),
         Err(ShelfFault::Failed) => Verdict::ReadFault(file),
         Err(ShelfFault::NoMemory) => Verdict::NoMemory,
     }
@@ -75,7 +99,8 @@ fn judge<'a, F: Shelf>(alloc: Global, words: &'a [String], shelf: &mut F) -> Ver
 {
     match plain_command(alloc, words) {
         Ok(Some(PlainCommand::Match { pattern, url })) => judge_match(alloc, pattern, url),
-        Ok(Some(PlainCommand::Frames { file })) => judge_file(alloc, file, shelf),
+        Ok(Some(PlainCommand::Frames { file })) => judge_file(alloc, Asked::Frames, file, shelf),
+        Ok(Some(PlainCommand::Report { file })) => judge_file(alloc, Asked::Report, file, shelf),
         Ok(None) => Verdict::Usage,
         Err(NoMemory) => Verdict::NoMemory,
     }

@@ -1,2 +1,3 @@
 mod ReportsLater
 mod Places
+mod Counts

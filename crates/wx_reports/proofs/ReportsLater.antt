@@ -1,6 +1,6 @@
 -- A report is there where its channel or request is, and tells the entry that settled the request.
 use Rattle.std.proofs.Common.{◌≡◌, ℕ, List, [], ◌∷◌, length, refl, ap, sym, ◌∙◌, Bool, true, false, cond}
-use Rattle.std.specs.Prelude.{Option, Some, None, ◌||◌, ◌&&◌, is_some, ◌==◌}
+use Rattle.std.specs.Prelude.{Option, Some, None, ◌&&◌, is_some, ◌==◌}
 use Rattle.std.specs.Option.{option_or, option_map}
 use Rattle.wx_id.specs.declared.numbers.EntryNo.{EntryNo}
 use Rattle.wx_machine.specs.declared.entries.Entry.{Entry}
@@ -8,8 +8,6 @@ use Rattle.wx_machine.specs.Channels.{opens, channels, channel}
 use Rattle.wx_machine.specs.Requests.{asks, requests, request}
 use Rattle.wx_machine.specs.Settling.{ends_request, settled_at}
 use Rattle.wx_walks.proofs.EndsLater.{place_more}
-use Rattle.wx_reports.specs.declared.ports.PortReport.{PortReport}
-use Rattle.wx_reports.specs.declared.requests.RequestReport.{RequestReport}
 use Rattle.wx_reports.specs.declared.requests.Settled.{Settled}
 use Rattle.wx_reports.specs.Reports.{entry_no, opened_at, asked_at, settlement, way}
 

@@ -1,3 +1,4 @@
 pub mod Reports
 pub mod Places
 pub mod Rows
+pub mod Counts

@@ -2,8 +2,6 @@
 use Rattle.std.specs.Prelude.{ℕ, ◌+◌, length, List, [], ◌∷◌, Bool, true, false, cond, Option, Some, None, is_some, ◌&&◌, ◌==◌}
 use Rattle.std.specs.Option.{option_or, option_map}
 use Rattle.wx_id.specs.declared.numbers.EntryNo.{EntryNo}
-use Rattle.wx_id.specs.declared.events.EventKind.{EventKind}
-use Rattle.wx_id.specs.declared.events.EventKind.TheVariants.{Message}
 use Rattle.wx_machine.specs.declared.entries.Who.{Who}
 use Rattle.wx_machine.specs.declared.entries.Who.TheVariants.{Context as ByContext, Host as ByHost}
 use Rattle.wx_machine.specs.declared.entries.Call.{Call}
@@ -16,6 +14,7 @@ use Rattle.wx_machine.specs.Requests.{Parties, asks, requests, request, is_asker
 use Rattle.wx_machine.specs.Hosts.{work_of, is_for_channel}
 use Rattle.wx_machine.specs.Closing.{closed_at}
 use Rattle.wx_machine.specs.Settling.{ends_request}
+use Rattle.wx_laws.specs.PrefixLaw.{is_message}
 use Rattle.wx_reports.specs.declared.ports.PortReport.{PortReport}
 use Rattle.wx_reports.specs.declared.requests.RequestReport.{RequestReport}
 use Rattle.wx_reports.specs.declared.requests.Settled.{Settled}
@@ -43,10 +42,6 @@ is_posting past k _ _ _ = false
 abbrev pub posted : List Entry → ℕ → ℕ
 posted [] k = 0
 posted (e ∷ past) k = posted past k + cond (is_posting past k e.who e.call e.answer) 1 0
-
-abbrev pub is_message : ℕ → EventKind → Bool
-is_message k (Message j) = j.0 == k
-is_message k _ = false
 
 -- a message of channel k is taken by a context, or a text by its host
 abbrev pub is_taking : List Entry → ℕ → Who → Call → Answer → Bool

@@ -1,7 +1,11 @@
 ghost use Rattle.std.specs.Prelude.{◌≡◌, Some, None, cond, is_some, reverse};
 ghost use Rattle.std.specs.Option.{option_or, option_map, IfSome};
+ghost use Rattle.wx_external.specs.World.{WorldLists};
+ghost use Rattle.wx_machine.specs.Answers.{IsLegal};
 ghost use Rattle.wx_machine.specs.Channels.{channel};
 ghost use Rattle.wx_machine.specs.Closing.{closed_at};
+ghost use Rattle.wx_laws.specs.Keeping.{KeepsChannel};
+ghost use Rattle.wx_reports.specs.Counts.{given_on, taken_on};
 ghost use Rattle.wx_reports.specs.Places.{IsOpening, IsClosing};
 ghost use Rattle.wx_reports.specs.Reports.{entry_no, opened_at, is_posting, posted, is_taking, taken, port_report};
 
@@ -120,13 +124,17 @@ fn taken(entries: &[Entry], k: ChannelNo) -> u64
     count
 }
 
-/// What the entries tell of channel k, none where there is no such channel.
+/// What the entries tell of channel k, none where there is no such channel. Where they are legal the laws of messaging
+/// hold of the channel, with the entry that the report says closed it.
 #[tactic(auto, using(crate::proofs::ReportsLater::is_opened))]
 pub fn port_report(entries: &[Entry], k: ChannelNo) -> Option<PortReport>
     ensures tells { result ≡ port_report (reverse entries.now) k.0 }
     ensures there { is_some result ≡ is_some (channel (reverse entries.now) k.0) }
     ensures opened { IfSome result (λ report. IsOpening (reverse entries.now) k.0 report.opened) }
     ensures closed { IfSome result (λ report. IfSome report.closed (IsClosing (reverse entries.now) k.0)) }
+    ensures laws { (world : WorldLists) → IsLegal world entries.now → IfSome result (λ report. KeepsChannel entries.now k.0 (option_map (λ n. n.0) report.closed)) }
+    ensures given { (world : WorldLists) → IsLegal world entries.now → IfSome result (λ report. report.posted ≡ given_on (reverse entries.now) k.0) }
+    ensures taken { (world : WorldLists) → IsLegal world entries.now → IfSome result (λ report. report.taken ≡ taken_on (reverse entries.now) k.0) }
 {
     match opened_at(entries, k) {
         None => None,

@@ -1,7 +1,10 @@
 ghost use Rattle.std.specs.Prelude.{◌≡◌, Some, None, cond, is_some, length, reverse};
 ghost use Rattle.std.specs.Option.{option_or, option_map, IfSome};
+ghost use Rattle.wx_external.specs.World.{WorldLists};
+ghost use Rattle.wx_machine.specs.Answers.{IsLegal};
 ghost use Rattle.wx_machine.specs.Requests.{request};
 ghost use Rattle.wx_machine.specs.Settling.{ends_request, settled_at};
+ghost use Rattle.wx_laws.specs.Keeping.{KeepsRequest};
 ghost use Rattle.wx_reports.specs.Places.{IsAsking, IsSettlement};
 ghost use Rattle.wx_reports.specs.Reports.{entry_no, asked_at, way, settlement, request_report};
 
@@ -98,7 +101,8 @@ fn settlement(entries: &[Entry], r: RequestNo) -> Option<(EntryNo, Settled)>
     settled
 }
 
-/// What the entries tell of request r, none where there is no such request.
+/// What the entries tell of request r, none where there is no such request. Where they are legal the laws of messaging
+/// hold of the request, with the entry that the report says settled it.
 #[tactic(auto, using(crate::proofs::ReportsLater::is_made, crate::proofs::ReportsLater::is_settled_there))]
 pub fn request_report(entries: &[Entry], r: RequestNo) -> Option<RequestReport>
     ensures tells { result ≡ request_report (reverse entries.now) r.0 }
@@ -106,6 +110,7 @@ pub fn request_report(entries: &[Entry], r: RequestNo) -> Option<RequestReport>
     ensures opened { IfSome result (λ report. IsAsking (reverse entries.now) r.0 report.opened) }
     ensures settled { IfSome result (λ report. option_map (λ s. s.0.0) report.settled ≡ settled_at (reverse entries.now) r.0) }
     ensures way { IfSome result (λ report. IfSome report.settled (IsSettlement (reverse entries.now) r.0)) }
+    ensures laws { (world : WorldLists) → IsLegal world entries.now → KeepsRequest entries.now r.0 }
 {
     match asked_at(entries, r) {
         None => None,

@@ -1,6 +1,10 @@
 pub mod ListLemmas
 pub mod HostEntries
 pub mod SlotLemmas
+pub mod ServeLemmas
+pub mod AddLemmas
+pub mod FinishLemmas
+pub mod ViewLemmas
 pub mod SeenLemmas
 pub mod CursorLemmas
 pub mod StepLemmas

@@ -22,6 +22,7 @@ use Rattle.wx_machine.specs.Each.{EachAfter}
 use Rattle.wx_machine.specs.Hosts.{hosts, is_by_host}
 use Rattle.wx_broker.specs.State.{BrokerState}
 use Rattle.wx_broker.specs.Steps.{Appends}
+use Rattle.wx_laws.proofs.Keeping.{legal_keeps_laws}
 use Rattle.wx_host_launch.specs.Records.{Writing}
 use Rattle.wx_host_slot.specs.Journals.{entries_of}
 use Rattle.wx_host_slot.specs.Slots.{host_limit}
@@ -383,6 +384,7 @@ opened_rounds world scene ps opened after end so came =
 pub run_of : (world : WorldLists) (scene : SceneValue) (journal : List Entry) (end : RunEnd) → IsLegal world journal → AreHostsWithin (reverse journal) → AreRounds (scripts_of scene) (reverse (opening scene)) (reverse journal) end → IsRunOf world scene journal end
 run_of world scene journal end legal hosts_within rounds = record {
   legal = legal;
+  laws = legal_keeps_laws world journal legal;
   carries_out = rounds.follows;
   begins = begins_with rounds.count (scripts_of scene) (opening scene) journal rounds.rounds;
   count = rounds.count;

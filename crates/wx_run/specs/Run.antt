@@ -4,6 +4,7 @@ use Rattle.wx_id.specs.declared.numbers.ContextNo.{ContextNo}
 use Rattle.wx_external.specs.World.{WorldLists}
 use Rattle.wx_machine.specs.declared.entries.Entry.{Entry}
 use Rattle.wx_machine.specs.Answers.{IsLegal}
+use Rattle.wx_laws.specs.Keeping.{KeepsLaws}
 use Rattle.wx_script.specs.declared.script.Command.{Command}
 use Rattle.wx_script.specs.SceneValue.{SceneValue, scripts_of}
 use Rattle.wx_script.specs.Carries.{CarriesOut}
@@ -30,6 +31,8 @@ EndsBy scripts past (Spent (Host h)) = (spent_of scripts past ≡ None) × (spen
 pub record IsRunOf (world : WorldLists) (scene : SceneValue) (journal : List Entry) (end : RunEnd) : Type 0 where
   -- every answer is the machine's after the entries before it
   pub legal : IsLegal world journal
+  -- and so the laws of messaging hold in it
+  pub laws : KeepsLaws world journal
   -- each entry of a context is an endpoint's, and what its script asks for at its place
   pub carries_out : CarriesOut (scripts_of scene) journal
   -- it begins with the opening

@@ -1,5 +1,5 @@
 -- How the slots of a run's hosts stand to the journal. Every list of entries has the newest first.
-use Rattle.std.specs.Prelude.{◌≡◌, ℕ, ◌+◌, ◌≤◌, length, List, [], ◌∷◌, Bool, true, Option, Some, None, if◌then◌else◌}
+use Rattle.std.specs.Prelude.{◌≡◌, ℕ, ◌+◌, ◌≤◌, length, List, [], ◌∷◌, Bool, true, false, Option, Some, None, if◌then◌else◌}
 use Rattle.wx_id.specs.declared.numbers.HostNo.{HostNo}
 use Rattle.wx_external.specs.World.{WorldLists}
 use Rattle.wx_machine.specs.declared.entries.Entry.{Entry}
@@ -7,6 +7,8 @@ use Rattle.wx_machine.specs.Hosts.{hosts}
 use Rattle.wx_host_launch.specs.Records.{Writing, StarterState}
 use Rattle.wx_host_slot.specs.Journals.{entries_of}
 use Rattle.wx_host_slot.specs.Slots.{SlotState, Stands, WasStarted, is_spent_at, turns_left}
+use Rattle.wx_host_slot.specs.declared.slot.Served.{Served}
+use Rattle.wx_host_slot.specs.declared.slot.Served.TheVariants.{Moved, Rested}
 use Rattle.wx_run.specs.Hosts.{host_numbered, AreHostsWithin}
 
 -- each of these slots, of hosts numbered from n, stands to the journal
@@ -30,6 +32,11 @@ abbrev pub first_spent_slot : ℕ → List SlotState → Option HostNo
 first_spent_slot n [] = None
 first_spent_slot n (slot ∷ slots) = if is_spent_at slot then Some (host_numbered n) else first_spent_slot (n + 1) slots
 
+-- the place of the first of these slots, numbered from n, whose host has not ended
+abbrev pub first_unended_slot : ℕ → List SlotState → Option ℕ
+first_unended_slot n [] = None
+first_unended_slot n (slot ∷ slots) = if slot.ended then first_unended_slot (n + 1) slots else Some n
+
 -- more than as many turns as the hosts of these slots may still make
 abbrev pub all_turns_left : List SlotState → ℕ
 all_turns_left [] = 0
@@ -38,3 +45,8 @@ all_turns_left (slot ∷ slots) = turns_left slot + all_turns_left slots
 -- a starter that keeps so many places more
 abbrev pub keeping : ℕ → StarterState → StarterState
 keeping n starter = record starter { places = starter.places + n }
+
+-- the host made an entry, or its program was started
+abbrev pub is_moved : Served → Bool
+is_moved Moved = true
+is_moved Rested = false

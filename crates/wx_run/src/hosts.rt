@@ -1,18 +1,19 @@
-ghost use Rattle.std.specs.Prelude.{◌≡◌, ◌+◌, ◌-◌, ◌*◌, ◌<◌, ◌≤◌, ◌++◌, length, map, reverse, None, IfOk, OnOk};
+ghost use Rattle.std.specs.Prelude.{◌≡◌, ◌+◌, ◌-◌, ◌*◌, ◌<◌, ◌≤◌, ◌++◌, length, map, reverse, Option, None, IfOk, OnOk};
 ghost use Rattle.wx_machine.specs.Answers.{IsLegal};
 ghost use Rattle.wx_machine.specs.Hosts.{hosts};
 ghost use Rattle.wx_host_launch.specs.Records.{Writing};
-ghost use Rattle.wx_host_slot.specs.Slots.{closing_record, host_limit};
+ghost use Rattle.wx_host_slot.specs.Slots.{closing_record, host_limit, slots_of};
 ghost use Rattle.wx_run.specs.Hosts.{NoneReady};
 ghost use Rattle.wx_run.specs.Serving.{HostsServed, FirstHeard};
-ghost use Rattle.wx_run.specs.Slots.{HostsStand, AllWereStarted, first_spent_slot, all_turns_left, keeping};
+ghost use Rattle.wx_run.specs.Slots.{HostsStand, AllWereStarted, first_spent_slot, first_unended_slot, is_moved, all_turns_left, keeping};
 
 use crate::rounds::Rounded;
 use std::alloc::Global;
 use wx_broker::Broker;
 use wx_host_launch::Starter;
-use wx_host_slot::HostSlot;
+use wx_host_slot::{HostSlot, Served};
 use wx_id::{HostNo, NoMemory};
+use wx_script::SpentWho;
 
 /// Gives a slot to each host that has none.
 pub fn add_slots<P: Starter>(
@@ -20,14 +21,30 @@ pub fn add_slots<P: Starter>(
     slots: &mut Vec<HostSlot<P>>,
     starter: &mut P,
 ) -> Result<(), NoMemory>
-    requires { HostsStand (P.state starter.old).writing broker.now.world (reverse broker.now.entries) slots.old.items }
-    ensures stand { OnOk result (HostsStand (P.state starter.old).writing broker.now.world (reverse broker.now.entries) slots.new.items) }
+    requires { HostsStand (P.state starter.old).writing broker.now.world (reverse broker.now.entries) (slots_of P.state slots.old.items) }
+    ensures stand { OnOk result (HostsStand (P.state starter.old).writing broker.now.world (reverse broker.now.entries) (slots_of P.state slots.new.items)) }
     ensures all { OnOk result (length slots.new.items ≡ length (hosts (reverse broker.now.entries))) }
-    ensures unspent { OnOk result (first_spent_slot 0 slots.old.items ≡ None → first_spent_slot 0 slots.new.items ≡ None) }
-    ensures left { OnOk result (all_turns_left slots.new.items ≡ all_turns_left slots.old.items + (host_limit + 4) * (length slots.new.items - length slots.old.items)) }
+    ensures unspent { OnOk result (first_spent_slot 0 (slots_of P.state slots.old.items) ≡ None → first_spent_slot 0 (slots_of P.state slots.new.items) ≡ None) }
+    ensures left { OnOk result (all_turns_left (slots_of P.state slots.new.items) ≡ all_turns_left (slots_of P.state slots.old.items) + (host_limit + 4) * (length slots.new.items - length slots.old.items)) }
     ensures kept { OnOk result (P.state starter.new ≡ keeping (length slots.new.items - length slots.old.items) (P.state starter.old)) }
 {
-    Err(NoMemory)
+    while (slots.len() as u64) < broker.hosts() {
+        let slot = HostSlot::new(starter.another()?);
+        if slots.push(slot).is_err() {
+            return Err(NoMemory);
+        }
+    }
+    Ok(())
+}
+
+/// Whether the host made an entry or its program was started.
+fn has_moved(served: Served) -> bool
+    ensures { result ≡ is_moved served }
+{
+    match served {
+        Served::Moved => true,
+        Served::Rested => false,
+    }
 }
 
 /// The turns of all hosts behind those of the endpoints, in rising number, until one is spent.
@@ -37,17 +54,39 @@ pub fn serve_hosts<P: Starter>(
     slots: &mut Vec<HostSlot<P>>,
 ) -> Result<Rounded, NoMemory>
     requires legal { IsLegal broker.old.world broker.old.entries }
-    requires stand { (writing : Option Writing) × HostsStand writing broker.old.world (reverse broker.old.entries) slots.old.items }
+    requires stand { (writing : Option Writing) × HostsStand writing broker.old.world (reverse broker.old.entries) (slots_of P.state slots.old.items) }
     requires all { length slots.old.items ≡ length (hosts (reverse broker.old.entries)) }
-    requires unspent { first_spent_slot 0 slots.old.items ≡ None }
-    ensures stand { (writing : Option Writing) → HostsStand writing broker.old.world (reverse broker.old.entries) slots.old.items
-        → OnOk result (HostsStand writing broker.old.world (reverse broker.new.entries) slots.new.items) }
-    ensures served { IfOk result (HostsServed (reverse broker.old.entries) (reverse broker.new.entries) slots.old.items slots.new.items) }
+    requires unspent { first_spent_slot 0 (slots_of P.state slots.old.items) ≡ None }
+    ensures stand { (writing : Option Writing) → HostsStand writing broker.old.world (reverse broker.old.entries) (slots_of P.state slots.old.items)
+        → OnOk result (HostsStand writing broker.old.world (reverse broker.new.entries) (slots_of P.state slots.new.items)) }
+    ensures served { IfOk result (HostsServed (reverse broker.old.entries) (reverse broker.new.entries) (slots_of P.state slots.old.items) (slots_of P.state slots.new.items)) }
     ensures same_size { length slots.new.items ≡ length slots.old.items }
     ensures legal { OnOk result (IsLegal broker.old.world broker.new.entries) }
     ensures same_world { OnOk result (broker.new.world ≡ broker.old.world) }
 {
-    Err(NoMemory)
+    let mut moved = false;
+    for i in 0..slots.len() {
+        let h = HostNo(i as u64);
+        let slot = &mut slots[i];
+        let served = slot.serve(alloc, broker, h)?;
+        if slot.is_spent() {
+            return Ok(Rounded::Spent(SpentWho::Host(h)));
+        }
+        moved |= has_moved(served);
+    }
+    Ok(if moved { Rounded::Moved } else { Rounded::Idle })
+}
+
+/// The first slot whose host has not ended.
+fn first_unended<P: Starter>(slots: &[HostSlot<P>]) -> Option<usize>
+    ensures { result ≡ first_unended_slot 0 (slots_of P.state slots.now) }
+{
+    for (i, slot) in slots.iter().enumerate() {
+        if !slot.has_ended() {
+            return Some(i);
+        }
+    }
+    None
 }
 
 /// The turn of the first host that has not ended, where nobody else can do anything; no turn where there is none.
@@ -56,25 +95,35 @@ pub fn hear_first<P: Starter>(
     slots: &mut Vec<HostSlot<P>>,
 ) -> Result<Rounded, NoMemory>
     requires legal { IsLegal broker.old.world broker.old.entries }
-    requires stand { (writing : Option Writing) × HostsStand writing broker.old.world (reverse broker.old.entries) slots.old.items }
+    requires stand { (writing : Option Writing) × HostsStand writing broker.old.world (reverse broker.old.entries) (slots_of P.state slots.old.items) }
     requires all { length slots.old.items ≡ length (hosts (reverse broker.old.entries)) }
-    requires unspent { first_spent_slot 0 slots.old.items ≡ None }
-    requires started { AllWereStarted slots.old.items }
+    requires unspent { first_spent_slot 0 (slots_of P.state slots.old.items) ≡ None }
+    requires started { AllWereStarted (slots_of P.state slots.old.items) }
     requires none_ready { NoneReady (reverse broker.old.entries) }
-    ensures stand { (writing : Option Writing) → HostsStand writing broker.old.world (reverse broker.old.entries) slots.old.items
-        → OnOk result (HostsStand writing broker.old.world (reverse broker.new.entries) slots.new.items) }
-    ensures heard { IfOk result (FirstHeard (reverse broker.old.entries) (reverse broker.new.entries) slots.old.items slots.new.items) }
+    ensures stand { (writing : Option Writing) → HostsStand writing broker.old.world (reverse broker.old.entries) (slots_of P.state slots.old.items)
+        → OnOk result (HostsStand writing broker.old.world (reverse broker.new.entries) (slots_of P.state slots.new.items)) }
+    ensures heard { IfOk result (FirstHeard (reverse broker.old.entries) (reverse broker.new.entries) (slots_of P.state slots.old.items) (slots_of P.state slots.new.items)) }
     ensures same_size { length slots.new.items ≡ length slots.old.items }
     ensures legal { OnOk result (IsLegal broker.old.world broker.new.entries) }
     ensures same_world { OnOk result (broker.new.world ≡ broker.old.world) }
 {
-    Err(NoMemory)
+    let Some(i) = first_unended(slots) else {
+        return Ok(Rounded::Idle);
+    };
+    let h = HostNo(i as u64);
+    let slot = &mut slots[i];
+    slot.hear(broker, h)?;
+    Ok(if slot.is_spent() {
+        Rounded::Spent(SpentWho::Host(h))
+    } else {
+        Rounded::Moved
+    })
 }
 
 /// Finishes each started child, and hands the hosts' records over, in rising number.
 pub fn finish_hosts<P: Starter>(slots: Vec<HostSlot<P>>, starter: &mut P)
     requires { length slots.items ≤ (P.state starter.old).places }
-    ensures { (P.state starter.new).records ≡ (P.state starter.old).records ++ map closing_record slots.items }
+    ensures { (P.state starter.new).records ≡ (P.state starter.old).records ++ map closing_record (slots_of P.state slots.items) }
 {
     for slot in slots {
         starter.absorb(slot.finish());

@@ -3,6 +3,8 @@ use Rattle.std.specs.Prelude.{ℕ, List, ◌++◌, decimal, codes}
 use Rattle.wx_script.specs.declared.scene.SceneKind.{SceneKind}
 use Rattle.wx_script.specs.declared.scene.SceneKind.TheVariants.{Missing, Large, Head, Form, Order, Id, Repeated, Unknown, Url, Unbound, Json, Many}
 use Rattle.wx_script.specs.declared.scene.SceneFault.{SceneFault}
+use Rattle.wx_journal_read.specs.declared.fault.JournalKind.{JournalKind}
+use Rattle.wx_journal_read.specs.declared.fault.JournalKind.TheVariants as journal
 use Rattle.wx_match_pattern.specs.declared.fault.PatternKind.{PatternKind}
 use Rattle.wx_match_pattern.specs.declared.fault.PatternKind.TheVariants as pattern
 use Rattle.wx_status.specs.declared.status.InputKind.{InputKind}
@@ -45,12 +47,18 @@ pattern_word pattern.Scheme = codes "scheme"
 pattern_word pattern.Host = codes "host"
 pattern_word pattern.Path = codes "path"
 
+-- the word for what is wrong with a journal's text
+abbrev pub journal_word : JournalKind → List ℕ
+journal_word journal.Head = codes "head"
+journal_word journal.Line = codes "line"
+
 -- the rest of the line that says why an input is refused
 abbrev pub input_rest : InputKind → List ℕ
 input_rest input.Missing = codes "missing\n"
 input_rest input.Large = codes "large\n"
 input_rest (input.Pattern fault) = codes "pattern " ++ (decimal fault.place ++ (codes " " ++ (pattern_word fault.kind ++ codes "\n")))
 input_rest input.Url = codes "url\n"
+input_rest (input.Journal fault) = codes "journal " ++ (decimal fault.place ++ (codes " " ++ (journal_word fault.kind ++ codes "\n")))
 
 abbrev pub input_line : InputKind → List ℕ
 input_line kind = codes "wx: input refused: " ++ input_rest kind

@@ -4,6 +4,7 @@ ghost use Rattle.wx_status.specs.declared.status.InputKind.TheVariants as input;
 
 use crate::status::InputKind;
 use std::alloc::{AllocError, Global};
+use wx_journal_read::{JournalFault, JournalKind};
 use wx_match_pattern::{PatternFault, PatternKind};
 use wx_script::{SceneFault, SceneKind};
 
@@ -63,6 +64,25 @@ fn pattern_line(alloc: Global, fault: PatternFault) -> Result<String, AllocError
     format!(in alloc; "wx: input refused: pattern {place} {part}\n")
 }
 
+/// The word for what is wrong with a journal's text.
+fn journal_word(kind: JournalKind) -> &'static str
+    ensures { result.now ≡ lines.journal_word kind }
+{
+    match kind {
+        JournalKind::Head => "head",
+        JournalKind::Line => "line",
+    }
+}
+
+/// The line that says where and how a journal's text is faulty.
+fn journal_line(alloc: Global, fault: JournalFault) -> Result<String, AllocError>
+    ensures { IfOk result (λ line. string_bytes line ≡ lines.input_line (input.Journal fault)) }
+{
+    let place = fault.place;
+    let what = journal_word(fault.kind);
+    format!(in alloc; "wx: input refused: journal {place} {what}\n")
+}
+
 /// The line that says why an input is refused.
 pub fn input_line(alloc: Global, kind: InputKind) -> Result<String, AllocError>
     ensures { IfOk result (λ line. string_bytes line ≡ lines.input_line kind) }
@@ -72,5 +92,6 @@ pub fn input_line(alloc: Global, kind: InputKind) -> Result<String, AllocError>
         InputKind::Large => String::from_str(alloc, "wx: input refused: large\n"),
         InputKind::Pattern(fault) => pattern_line(alloc, fault),
         InputKind::Url => String::from_str(alloc, "wx: input refused: url\n"),
+        InputKind::Journal(fault) => journal_line(alloc, fault),
     }
 }

@@ -1,6 +1,7 @@
 ghost use Rattle.std.specs.Prelude.{◌≡◌};
 ghost use Rattle.wx_status.specs.Status.{status_number};
 
+use wx_journal_read::JournalFault;
 use wx_match_pattern::PatternFault;
 use wx_script::{SceneKind, SpentWho};
 use wx_world::FileKind;
@@ -16,6 +17,8 @@ pub enum InputKind {
     Pattern(PatternFault),
     /// The word has more than 67,108,864 bytes, or is no URL by the URL Standard's parser.
     Url,
+    /// The bytes are no journal's text.
+    Journal(JournalFault),
 }
 
 /// What the program answers.

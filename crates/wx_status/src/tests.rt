@@ -5,6 +5,7 @@ use std::alloc::{AllocError, Global};
 use std::test::Fail;
 use wx_host_manifest::{HostFault, HostKey};
 use wx_id::HostNo;
+use wx_journal_read::{JournalFault, JournalKind};
 use wx_manifest::{Key, ManifestFault};
 use wx_match_pattern::{PatternFault, PatternKind};
 use wx_outside::MemorySink;
@@ -14,6 +15,11 @@ use wx_world::FileKind;
 const PATTERN: InputKind = InputKind::Pattern(PatternFault {
     place: 8,
     kind: PatternKind::Host,
+});
+
+const JOURNAL: InputKind = InputKind::Journal(JournalFault {
+    place: 20,
+    kind: JournalKind::Line,
 });
 
 #[test]
@@ -77,6 +83,10 @@ fn lines(rt: HostRuntime) -> Result<(), Fail> {
         (
             input_line(alloc, InputKind::Url)?,
             "wx: input refused: url\n",
+        ),
+        (
+            input_line(alloc, JOURNAL)?,
+            "wx: input refused: journal 20 line\n",
         ),
     ];
     for (line, expected) in cases {

@@ -1,7 +1,6 @@
 -- What the simple commands read of the words behind a command's name, and which they refuse.
 use Rattle.std.proofs.Common.{◌≡◌, ◌∙◌, true, List, [], ◌∷◌, drop, Option, Some, None, refl, sym, subst, ap, ap₂, codes, inl, inr}
 use Rattle.std.specs.Prelude.{◌⊎◌, ◌≢◌}
-use Rattle.std.specs.Option.{option_map}
 use Rattle.std.specs.List.{list_all}
 use Rattle.std.proofs.lemmas.Bool.{and_parts}
 use Rattle.clap.specs.Walk.{Held, rows_of, Text, Walk, finished, first_of, walked, walk, nothing_held, reading_by}
@@ -16,8 +15,8 @@ use Rattle.clap.specs.declared.error.Error.{Error}
 use Rattle.clap.specs.declared.error.kind.ErrorKind.{ErrorKind}
 use Rattle.clap.specs.declared.error.kind.ErrorKind.TheVariants as kind
 use Rattle.clap.specs.declared.parser.matches.ValueSource.TheVariants.{CommandLine}
-use Rattle.wx_words.specs.Words.{is_operand, match_in, frames_in, framing}
-use Rattle.wx_words.specs.Readers.{wanted, both, pattern_id, url_id, file_id, match_reader, frames_reader}
+use Rattle.wx_words.specs.Words.{is_operand, match_in, file_in}
+use Rattle.wx_words.specs.Readers.{wanted, both, pattern_id, url_id, file_id, match_reader, file_reader}
 use Rattle.wx_words.proofs.Walks.{IsPlain, operand_plain, between, operand_faults, operand_walked, faults_at, found_at, behind_walk}
 
 -- some fault
@@ -39,43 +38,43 @@ first_operand word rest all = (and_parts (is_operand word) (list_all is_operand 
 other_operands : (word : Text) (rest : List Text) → list_all is_operand (word ∷ rest) ≡ true → list_all is_operand rest ≡ true
 other_operands word rest all = (and_parts (is_operand word) (list_all is_operand rest) all).1
 
--- ---- frames
+-- ---- a file
 
-abbrev frames_top : Shape
-frames_top = (built frames_reader).top
+abbrev file_top : Text → Shape
+file_top name = (built (file_reader name)).top
 
 -- what the walk holds behind the file's name
 abbrev with_file : Text → Held
 with_file file = record { rows = []; pending = Some (codes "file", file ∷ []); skip = 0 }
 
-frames_walk : (file : Text) → IsPlain file → walk frames_top.rules [] nothing_held (file ∷ []) ≡ between (with_file file) 2
-frames_walk file is = operand_walked frames_top.rules nothing_held 1 file is
+file_walk : (name file : Text) → IsPlain file → walk (file_top name).rules [] nothing_held (file ∷ []) ≡ between (with_file file) 2
+file_walk name file is = operand_walked (file_top name).rules nothing_held 1 file is
 
-frames_found : (file : Text) → IsPlain file → found_at frames_reader (codes "file") (file ∷ []) ≡ Some file
-frames_found file is = ap (λ (w : Walk). first_of (codes "file") (finished frames_top.rules w.held)) (frames_walk file is)
+file_found : (name file : Text) → IsPlain file → found_at (file_reader name) (codes "file") (file ∷ []) ≡ Some file
+file_found name file is = ap (λ (w : Walk). first_of (codes "file") (finished (file_top name).rules w.held)) (file_walk name file is)
 
-frames_none : IsFaulty (faults_at frames_reader [])
+file_none : (name : Text) → IsFaulty (faults_at (file_reader name) [])
 unfolding walk_fault defaults_fault
-frames_none = (kind.MissingRequiredArgument, [], refl)
+file_none name = (kind.MissingRequiredArgument, [], refl)
 
-frames_one : (file : Text) → IsPlain file → faults_at frames_reader (file ∷ []) ≡ []
+file_one : (name file : Text) → IsPlain file → faults_at (file_reader name) (file ∷ []) ≡ []
 unfolding walk_fault defaults_fault
-frames_one file is = ap₂ or_else (operand_faults frames_top nothing_held 1 file [] is) (ap (behind_walk (built frames_reader)) (frames_walk file is))
+file_one name file is = ap₂ or_else (operand_faults (file_top name) nothing_held 1 file [] is) (ap (behind_walk (built (file_reader name))) (file_walk name file is))
 
-frames_more : (one two : Text) (rest : List Text) → IsPlain one → IsPlain two → IsFaulty (faults_at frames_reader (one ∷ two ∷ rest))
-frames_more one two rest one_is two_is =
-    refused_behind (built frames_reader) (walk frames_top.rules [] nothing_held (one ∷ two ∷ rest)) _ kind.UnknownArgument []
-    (operand_faults frames_top nothing_held 1 one (two ∷ rest) one_is ∙ operand_faults frames_top (with_file one) 2 two rest two_is)
+file_more : (name one two : Text) (rest : List Text) → IsPlain one → IsPlain two → IsFaulty (faults_at (file_reader name) (one ∷ two ∷ rest))
+file_more name one two rest one_is two_is =
+    refused_behind (built (file_reader name)) (walk (file_top name).rules [] nothing_held (one ∷ two ∷ rest)) _ kind.UnknownArgument []
+    (operand_faults (file_top name) nothing_held 1 one (two ∷ rest) one_is ∙ operand_faults (file_top name) (with_file one) 2 two rest two_is)
 
-pub frames_right : (words : List Text) → list_all is_operand words ≡ true
-    → IsRight (faults_at frames_reader words) (option_map framing (found_at frames_reader (codes "file") words)) (frames_in words)
-frames_right [] all = inr (frames_none, refl)
-frames_right (file ∷ []) all =
+pub file_right : (name : Text) (words : List Text) → list_all is_operand words ≡ true
+    → IsRight (faults_at (file_reader name) words) (found_at (file_reader name) (codes "file") words) (file_in words)
+file_right name [] all = inr (file_none name, refl)
+file_right name (file ∷ []) all =
     let is = first_operand file [] all in
-    inl (frames_one file (operand_plain file is), ap (option_map framing) (frames_found file (operand_plain file is)) ∙ rw is refl)
-frames_right (one ∷ two ∷ rest) all =
+    inl (file_one name file (operand_plain file is), file_found name file (operand_plain file is) ∙ rw is refl)
+file_right name (one ∷ two ∷ rest) all =
     let others = other_operands one (two ∷ rest) all in
-    inr (frames_more one two rest (operand_plain one (first_operand one (two ∷ rest) all)) (operand_plain two (first_operand two rest others)), refl)
+    inr (file_more name one two rest (operand_plain one (first_operand one (two ∷ rest) all)) (operand_plain two (first_operand two rest others)), refl)
 
 -- ---- match
 
@@ -172,12 +171,12 @@ pub match_refused : (words : List Text) (e : Error) → list_all is_operand (dro
 match_refused words e all has other =
     refused_right (faults_at match_reader (drop 1 words)) (both (found_at match_reader pattern_id (drop 1 words)) (found_at match_reader url_id (drop 1 words))) (match_in (drop 1 words)) e (match_right (drop 1 words) all) has other
 
-pub frames_read : (words : List Text) (found : Found) → list_all is_operand (drop 1 words) ≡ true → rows_of found ≡ matches_of frames_reader words → fault_of frames_reader words ≡ []
-    → option_map framing (first_value found file_id) ≡ frames_in (drop 1 words)
-frames_read words found all rows none =
-    ap (option_map framing) (first_value-rows found file_id ∙ ap (first_of file_id) rows)
-    ∙ read_right (faults_at frames_reader (drop 1 words)) (option_map framing (found_at frames_reader file_id (drop 1 words))) (frames_in (drop 1 words)) (frames_right (drop 1 words) all) none
+pub file_read : (name : Text) (words : List Text) (found : Found) → list_all is_operand (drop 1 words) ≡ true → rows_of found ≡ matches_of (file_reader name) words → fault_of (file_reader name) words ≡ []
+    → first_value found file_id ≡ file_in (drop 1 words)
+file_read name words found all rows none =
+    first_value-rows found file_id ∙ ap (first_of file_id) rows
+    ∙ read_right (faults_at (file_reader name) (drop 1 words)) (found_at (file_reader name) file_id (drop 1 words)) (file_in (drop 1 words)) (file_right name (drop 1 words) all) none
 
-pub frames_refused : (words : List Text) (e : Error) → list_all is_operand (drop 1 words) ≡ true → HasKind (fault_of frames_reader words) e → kind_of e ≢ kind.OutOfMemory → None ≡ frames_in (drop 1 words)
-frames_refused words e all has other =
-    refused_right (faults_at frames_reader (drop 1 words)) (option_map framing (found_at frames_reader file_id (drop 1 words))) (frames_in (drop 1 words)) e (frames_right (drop 1 words) all) has other
+pub file_refused : (name : Text) (words : List Text) (e : Error) → list_all is_operand (drop 1 words) ≡ true → HasKind (fault_of (file_reader name) words) e → kind_of e ≢ kind.OutOfMemory → None ≡ file_in (drop 1 words)
+file_refused name words e all has other =
+    refused_right (faults_at (file_reader name) (drop 1 words)) (found_at (file_reader name) file_id (drop 1 words)) (file_in (drop 1 words)) e (file_right name (drop 1 words) all) has other

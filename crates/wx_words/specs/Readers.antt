@@ -20,15 +20,15 @@ bare name = record (new_app name) { top = record (new_app name).top { disable_he
 abbrev pub match_reader : App
 match_reader = with_rule (with_rule (bare (codes "match")) (wanted (codes "pattern"))) (wanted (codes "url"))
 
--- `frames FILE`
-abbrev pub frames_reader : App
-frames_reader = with_rule (bare (codes "frames")) (wanted (codes "file"))
+-- `frames FILE` or `report FILE`, by its name
+abbrev pub file_reader : List ℕ → App
+file_reader name = with_rule (bare name) (wanted (codes "file"))
 
 -- `run SCENE` with or without `--rounds`
 abbrev pub run_reader : App
 run_reader = with_rule (with_rule (bare (codes "run")) rounds_flag) (wanted (codes "scene"))
 
--- the names under which the words of `match` and of `frames` are read
+-- the names under which the words of `match`, and the file, are read
 abbrev pub pattern_id : List ℕ
 pattern_id = codes "pattern"
 

@@ -1,5 +1,6 @@
 -- Which words ask for what. The first word names the command.
 use Rattle.std.specs.Prelude.{ℕ, Bool, true, false, ◌&&◌, ◌||◌, not, List, [], ◌∷◌, drop, Option, Some, None, ◌==◌, codes, if◌then◌else◌}
+use Rattle.std.specs.Option.{option_map}
 use Rattle.std.specs.Str.{bytes_eq}
 
 -- a word that is no flag: one that does not begin with `-`, or `-` alone, which is standard input where a file stands
@@ -36,19 +37,22 @@ pub data PlainCommand : Type 0 where
   matching : List ℕ → List ℕ → PlainCommand
   -- which frames are in this file?
   framing : List ℕ → PlainCommand
+  -- what does the journal in this file tell of its channels and requests?
+  reporting : List ℕ → PlainCommand
 
 -- the words behind `match`: PATTERN URL
 abbrev pub match_in : List (List ℕ) → Option PlainCommand
 match_in (pattern ∷ url ∷ []) = if is_operand pattern && is_operand url then Some (matching pattern url) else None
 match_in words = None
 
--- the words behind `frames`: FILE
-abbrev pub frames_in : List (List ℕ) → Option PlainCommand
-frames_in (file ∷ []) = if is_operand file then Some (framing file) else None
-frames_in words = None
+-- the file of the words behind `frames` or `report`: FILE
+abbrev pub file_in : List (List ℕ) → Option (List ℕ)
+file_in (file ∷ []) = operand file
+file_in words = None
 
 -- the command that makes no run which the words ask for; other words ask for none
 abbrev pub plain_command_of : List (List ℕ) → Option PlainCommand
 plain_command_of words =
     if is_named (codes "match") words then match_in (drop 1 words)
-    else (if is_named (codes "frames") words then frames_in (drop 1 words) else None)
+    else (if is_named (codes "frames") words then option_map framing (file_in (drop 1 words))
+    else (if is_named (codes "report") words then option_map reporting (file_in (drop 1 words)) else None))

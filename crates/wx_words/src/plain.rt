@@ -7,7 +7,7 @@ ghost use Rattle.wx_words.specs.Words as forms;
 ghost use Rattle.wx_words.specs.View.{command_view};
 
 use crate::operands::{are_operands, is_named};
-use crate::readers::{is_out_of_memory, read_frames, read_match};
+use crate::readers::{is_out_of_memory, read_file, read_match};
 use clap::ArgMatches;
 use std::alloc::Global;
 use wx_id::NoMemory;
@@ -19,6 +19,8 @@ pub enum PlainCommand<'a> {
     Match { pattern: &'a str, url: &'a str },
     /// `frames FILE`.
     Frames { file: &'a str },
+    /// `report FILE`.
+    Report { file: &'a str },
 }
 
 /// The command that the values of `match` make, where both are there.
@@ -28,16 +30,6 @@ fn of_match<'a>(found: &ArgMatches<'a>) -> Option<PlainCommand<'a>>
     match (found.get_str("pattern"), found.get_str("url")) {
         (Some(pattern), Some(url)) => Some(PlainCommand::Match { pattern, url }),
         _ => None,
-    }
-}
-
-/// The command that the value of `frames` makes, where it is there.
-fn of_frames<'a>(found: &ArgMatches<'a>) -> Option<PlainCommand<'a>>
-    ensures { option_map command_view result ≡ option_map forms.framing (first_value (found_of found.now) readers.file_id) }
-{
-    match found.get_str("file") {
-        Some(file) => Some(PlainCommand::Frames { file }),
-        None => None,
     }
 }
 
@@ -61,16 +53,17 @@ fn match_command<'a>(
     }
 }
 
-/// The command of words that begin with `frames` and have operands behind it.
-fn frames_command<'a>(
+/// The file of words that begin with this name and have operands behind it.
+fn file_behind<'a>(
     alloc: Global,
+    name: &'a str,
     words: &'a [String],
-) -> Result<Option<PlainCommand<'a>>, NoMemory>
+) -> Result<Option<&'a str>, NoMemory>
     requires { list_all forms.is_operand (drop 1 (map string_bytes words.now)) ≡ true }
-    ensures { IfOk result (λ command. option_map command_view command ≡ forms.frames_in (drop 1 (map string_bytes words.entry.now))) }
+    ensures { IfOk result (λ file. option_map (λ f. f.now) file ≡ forms.file_in (drop 1 (map string_bytes words.entry.now))) }
 {
-    match read_frames(alloc, words) {
-        Ok(found) => Ok(of_frames(&found)),
+    match read_file(alloc, name, words) {
+        Ok(found) => Ok(found.get_str("file")),
         Err(e) => {
             if is_out_of_memory(&e) {
                 Err(NoMemory)
@@ -95,7 +88,11 @@ pub fn plain_command<'a>(
     if is_named("match", words) {
         match_command(alloc, words)
     } else if is_named("frames", words) {
-        frames_command(alloc, words)
+        let file = file_behind(alloc, "frames", words)?;
+        Ok(file.map(|file| PlainCommand::Frames { file }))
+    } else if is_named("report", words) {
+        let file = file_behind(alloc, "report", words)?;
+        Ok(file.map(|file| PlainCommand::Report { file }))
     } else {
         Ok(None)
     }

@@ -41,12 +41,16 @@ pub(crate) fn read_match<'a>(alloc: Global, words: &'a [String]) -> Result<ArgMa
     command.try_get_matches_from(words)
 }
 
-/// What clap reads of the words of `frames`.
-pub(crate) fn read_frames<'a>(alloc: Global, words: &'a [String]) -> Result<ArgMatches<'a>, Error>
-    ensures matches { IfOk result (λ m. rows_of (found_of m) ≡ matches_of readers.frames_reader (map string_bytes words.entry.now)) }
-    ensures kinds { FailsBy (fault_of readers.frames_reader (map string_bytes words.entry.now)) result }
+/// What clap reads of the words of the command of this name, which has a file.
+pub(crate) fn read_file<'a>(
+    alloc: Global,
+    name: &'a str,
+    words: &'a [String],
+) -> Result<ArgMatches<'a>, Error>
+    ensures matches { IfOk result (λ m. rows_of (found_of m) ≡ matches_of (readers.file_reader name.entry.now) (map string_bytes words.entry.now)) }
+    ensures kinds { FailsBy (fault_of (readers.file_reader name.entry.now) (map string_bytes words.entry.now)) result }
 {
-    let command = bare(alloc, "frames").arg(wanted(alloc, "file"))?;
+    let command = bare(alloc, name).arg(wanted(alloc, "file"))?;
     command.try_get_matches_from(words)
 }
 

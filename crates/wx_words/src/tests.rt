@@ -43,7 +43,7 @@ fn runs(rt: HostRuntime) -> Result<(), Fail> {
 
 #[test]
 fn plain_commands(rt: HostRuntime) -> Result<(), Fail> {
-    let cases: [(&[&str], Option<PlainCommand>); 16] = [
+    let cases: [(&[&str], Option<PlainCommand>); 19] = [
         (
             &["match", "a", "b"],
             Some(PlainCommand::Match {
@@ -60,6 +60,9 @@ fn plain_commands(rt: HostRuntime) -> Result<(), Fail> {
         ),
         (&["frames", "f"], Some(PlainCommand::Frames { file: "f" })),
         (&["frames", "-"], Some(PlainCommand::Frames { file: "-" })),
+        (&["report", "f"], Some(PlainCommand::Report { file: "f" })),
+        (&["report"], None),
+        (&["report", "f", "--rounds"], None),
         (&[], None),
         (&[""], None),
         (&["match"], None),

@@ -1,0 +1,10 @@
+pub mod JournalLemmas
+pub mod StandsLater
+pub mod DeskLemmas
+pub mod PipeLemmas
+pub mod EndLemmas
+pub mod InLemmas
+pub mod OutLemmas
+pub mod StartLemmas
+pub mod ServeLemmas
+pub mod DeskOverLemmas

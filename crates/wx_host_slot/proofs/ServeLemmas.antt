@@ -1,0 +1,258 @@
+-- What a slot's turns come to over a broker. Every list of entries has the newest first.
+use Rattle.std.proofs.Common.{◌≡◌, ℕ, ◌+◌, ◌<◌, ◌≤◌, List, [], ◌∷◌, Bool, true, false, not, ◌&&◌, Option, Some, None, refl, ap, ◌∙◌, sym, subst, arith}
+use Rattle.std.specs.Prelude.{reverse, is_some, IsSome, Result, Ok, Err, IfOk, OnOk}
+use Rattle.std.proofs.lemmas.Bool.{true≢false}
+use Rattle.std.proofs.lemmas.List.{reverse-append}
+use Rattle.wx_id.specs.declared.numbers.HostNo.{HostNo}
+use Rattle.wx_id.specs.declared.numbers.EntryNo.{EntryNo}
+use Rattle.wx_external.specs.World.{WorldLists}
+use Rattle.wx_native_frame.specs.Frames.{Unfinished}
+use Rattle.wx_machine.specs.declared.entries.Who.TheVariants.{Host as ByHost}
+use Rattle.wx_machine.specs.declared.entries.Call.TheVariants.{HostEnded}
+use Rattle.wx_machine.specs.declared.entries.Reason.TheVariants.{StartFailed}
+use Rattle.wx_machine.specs.declared.entries.Answer.{Answer}
+use Rattle.wx_machine.specs.declared.entries.Entry.{Entry}
+use Rattle.wx_machine.specs.declared.entries.TheConstants.{LONGEST_SAID}
+use Rattle.wx_machine.specs.Answers.{FollowsMachine, IsLegal, is_host_ready}
+use Rattle.wx_machine.specs.Each.{EachAfter}
+use Rattle.wx_machine.specs.Texts.{has_ended}
+use Rattle.wx_broker.specs.State.{BrokerState}
+use Rattle.wx_broker.specs.Steps.{Appends}
+use Rattle.wx_outside.specs.Causes.{Rose}
+use Rattle.wx_host_launch.specs.Pipes.{InState, OutState}
+use Rattle.wx_host_launch.specs.Records.{Program, Writing, StarterState, starting, AreFresh}
+use Rattle.wx_host_launch.specs.Steps.{past_of}
+use Rattle.wx_host_launch.specs.Turns.{IsInTurn, IsOutTurn}
+use Rattle.wx_host_launch.specs.declared.turns.InTurn.TheVariants as into
+use Rattle.wx_host_launch.specs.declared.turns.OutTurn.TheVariants as out
+use Rattle.wx_host_slot.specs.BrokerDesks.{desk_over}
+use Rattle.wx_host_slot.specs.Journals.{program_of}
+use Rattle.wx_host_slot.specs.Slots.{ChildState, SlotState, SlotView, slot_of, StandsRunning, StandsAs, waiting, running, over, Stands, turns_left, CameTo, IsServed, IsStarted, HasSpoken}
+use Rattle.wx_host_slot.specs.Turns.{HostTurn, rested}
+use Rattle.wx_host_slot.specs.declared.slot.Served.{Served}
+use Rattle.wx_host_slot.specs.declared.slot.Served.TheVariants.{Moved, Rested}
+use Rattle.wx_host_slot.proofs.JournalLemmas.{own}
+use Rattle.wx_host_slot.proofs.StartLemmas.{fresh_child, start_runs, without_child, start_fails}
+use Rattle.wx_host_slot.proofs.DeskLemmas.{one_past, at_first, over_past}
+use Rattle.wx_host_slot.proofs.EndLemmas.{behind_turn}
+use Rattle.wx_host_slot.proofs.InLemmas.{with_input, Leads, in_moved, in_closed, in_waits, in_ended}
+use Rattle.wx_host_slot.proofs.OutLemmas.{with_output, Speaks, never_waits, out_moved, out_ended}
+
+-- How it stands before
+
+-- where a child was started and the host has not ended, the child runs
+pub running_of : (writing : Option Writing) (world : WorldLists) (past : List Entry) (h : HostNo) (slot : SlotState) (child : ChildState) → Stands writing world past h slot → slot.ended ≡ false → slot.child ≡ Some child → StandsRunning writing world past h slot child
+running_of writing world past h slot child s unended has = by s.stands
+  where
+    same : (o : Option ChildState) (c : ChildState) → o ≡ Some c → c ≡ child → o ≡ Some child
+    same o c e f = e ∙ ap Some f
+
+    one : (c d : ChildState) → Some c ≡ Some d → c ≡ d
+    one c d e = cc
+
+    by : StandsAs writing world past h slot → StandsRunning writing world past h slot child
+    by (waiting un empty is) = absurd (true≢false (ap is_some (sym has ∙ ap (λ (x : SlotState). x.child) is)))
+    by (running c run) = (let R : ChildState → Type 0 = StandsRunning writing world past h slot in subst R (one c child (sym run.has_child ∙ has)) run)
+    by (over ended was meets) = absurd (true≢false (sym ended ∙ unended))
+
+-- the turn of a host that has ended
+pub rests : (writing : Option Writing) (world : WorldLists) (past : List Entry) (h : HostNo) (slot : SlotState) → Stands writing world past h slot → slot.ended ≡ true → is_host_ready past h ≡ false
+rests writing world past h slot s ended = by s.stands
+  where
+    not_now : (b c : Bool) → b ≡ true → (not b && c) ≡ false
+    not_now true c e = refl
+    not_now false c e = absurd (true≢false (sym e))
+
+    by : StandsAs writing world past h slot → is_host_ready past h ≡ false
+    by (waiting un empty is) = absurd (true≢false (sym ended ∙ ap (λ (x : SlotState). x.ended) is))
+    by (running c run) = absurd (true≢false (sym ended ∙ run.unended))
+    by (over over_ was meets) = not_now (has_ended past h) _ was
+
+-- it stands so for its own starter's children
+pub own_writing : (writing : Option Writing) (world : WorldLists) (past : List Entry) (h : HostNo) (slot : SlotState) → Stands writing world past h slot → Stands slot.starter.writing world past h slot
+own_writing writing world past h slot s =
+    let W : Option Writing → Type 0 = λ w. Stands w world past h slot in
+    subst W (sym s.same_writing) s
+
+-- A turn of the input
+
+served_over : (writing : Option Writing) (world : WorldLists) (past : List Entry) (h : HostNo) (slot after : SlotState) (broker : BrokerState) (lent : Option EntryNo) (came : Served) → Leads writing world h past slot after (desk_over h broker lent) came → IsServed writing world h past (reverse broker.entries) slot after came
+served_over writing world past h slot after broker lent came l =
+    let S : List Entry → Type 0 = λ now. IsServed writing world h past now slot after came in
+    subst S (sym (one_past h h world l.now (reverse broker.entries) (desk_over h broker lent) l.at refl)) l.served
+
+-- A turn of a host's input was made, over the broker.
+pub record TakesTurn (writing : Option Writing) (h : HostNo) (before : BrokerState) (slot : SlotState) (child : ChildState) : Type 0 where
+  pub stands : Stands writing before.world (reverse before.entries) h slot
+  pub runs : StandsRunning writing before.world (reverse before.entries) h slot child
+  pub room : slot.made < 65536
+
+-- the slot as it was, but for its child and its count
+abbrev pub after_turn : SlotState → ChildState → ℕ → SlotState
+after_turn slot child more = behind_turn slot child more slot.ended
+
+unended_after : (writing : Option Writing) (world : WorldLists) (past now : List Entry) (h : HostNo) (slot : SlotState) (child : ChildState) (came : Served) → slot.ended ≡ false → IsServed writing world h past now slot (behind_turn slot child 1 false) came → IsServed writing world h past now slot (after_turn slot child 1) came
+unended_after writing world past now h slot child came unended served =
+    let S : Bool → Type 0 = λ b. IsServed writing world h past now slot (behind_turn slot child 1 b) came in
+    subst S (sym unended) served
+
+legal_over : (h : HostNo) (world : WorldLists) (broker : BrokerState) (lent : Option EntryNo) → IsLegal world broker.entries → EachAfter (FollowsMachine world) (past_of (desk_over h broker lent))
+legal_over h world broker lent legal =
+    let P : List Entry → Type 0 = EachAfter (FollowsMachine world) in
+    subst P (sym (over_past h broker lent)) legal
+
+pub serves_moved : (writing : Option Writing) (h : HostNo) (old new : BrokerState) (slot : SlotState) (child : ChildState) (lent : Option EntryNo) (input : InState) → TakesTurn writing h old slot child → IsLegal old.world new.entries → IsInTurn (desk_over h old None) (desk_over h new lent) child.input input into.Moved
+    → IsServed writing old.world h (reverse old.entries) (reverse new.entries) slot (after_turn slot (with_input child input) 1) Moved
+serves_moved writing h old new slot child lent input t legal turn =
+    let past = reverse old.entries in
+    unended_after writing old.world past (reverse new.entries) h slot (with_input child input) Moved t.runs.unended
+    (served_over writing old.world past h slot (behind_turn slot (with_input child input) 1 false) new lent Moved
+    (in_moved writing old.world past h slot child (desk_over h old None) (desk_over h new lent) input (at_first h old None) (legal_over h old.world new lent legal) t.stands t.runs t.room turn))
+
+pub serves_closed : (writing : Option Writing) (h : HostNo) (old new : BrokerState) (slot : SlotState) (child : ChildState) (lent : Option EntryNo) (input : InState) → TakesTurn writing h old slot child → IsInTurn (desk_over h old None) (desk_over h new lent) child.input input into.Closed
+    → IsServed writing old.world h (reverse old.entries) (reverse new.entries) slot (after_turn slot (with_input child input) 1) Moved
+serves_closed writing h old new slot child lent input t turn =
+    let past = reverse old.entries in
+    unended_after writing old.world past (reverse new.entries) h slot (with_input child input) Moved t.runs.unended
+    (served_over writing old.world past h slot (behind_turn slot (with_input child input) 1 false) new lent Moved
+    (in_closed writing old.world past h slot child (desk_over h old None) (desk_over h new lent) input (at_first h old None) t.stands t.runs t.room turn))
+
+pub serves_waits : (writing : Option Writing) (h : HostNo) (old new : BrokerState) (slot : SlotState) (child : ChildState) (lent : Option EntryNo) (input : InState) → TakesTurn writing h old slot child → IsInTurn (desk_over h old None) (desk_over h new lent) child.input input into.Waits
+    → IsServed writing old.world h (reverse old.entries) (reverse new.entries) slot (record slot { child = Some (with_input child input) }) Rested
+serves_waits writing h old new slot child lent input t turn =
+    let past = reverse old.entries in
+    served_over writing old.world past h slot (record slot { child = Some (with_input child input) }) new lent Rested
+    (in_waits writing old.world past h slot child (desk_over h old None) (desk_over h new lent) input (at_first h old None) t.stands t.runs turn)
+
+pub serves_ended : (writing : Option Writing) (h : HostNo) (old new : BrokerState) (slot : SlotState) (child : ChildState) (lent : Option EntryNo) (input : InState) → TakesTurn writing h old slot child → IsLegal old.world new.entries → IsInTurn (desk_over h old None) (desk_over h new lent) child.input input into.Ended
+    → IsServed writing old.world h (reverse old.entries) (reverse new.entries) slot (behind_turn slot (with_input child input) 2 true) Moved
+serves_ended writing h old new slot child lent input t legal turn =
+    let past = reverse old.entries in
+    served_over writing old.world past h slot (behind_turn slot (with_input child input) 2 true) new lent Moved
+    (in_ended writing old.world past h slot child (desk_over h old None) (desk_over h new lent) input (at_first h old None) (legal_over h old.world new lent legal) t.stands t.runs t.room turn)
+
+-- Putting a child back
+
+-- the slot with its child put back, and more entries made
+pub put_back : {P : Type 0} (state : P → StarterState) (was slot : SlotView P) (child : ChildState) (more : ℕ) (S : SlotState → Type 0) → was ≡ slot → S (after_turn (slot_of state slot) child more) → S (slot_of state (record { starter = was.starter; child = Some child; made = was.made + more; ended = was.ended }))
+put_back {P} state was slot child more S same h =
+    let V : SlotView P → Type 0 = λ v. S (slot_of state (record { starter = v.starter; child = Some child; made = v.made + more; ended = v.ended })) in
+    subst V (sym same) h
+
+pub put_back_ended : {P : Type 0} (state : P → StarterState) (was slot : SlotView P) (child : ChildState) (more : ℕ) (S : SlotState → Type 0) → was ≡ slot → S (behind_turn (slot_of state slot) child more true) → S (slot_of state (record { starter = was.starter; child = Some child; made = was.made + more; ended = true }))
+put_back_ended {P} state was slot child more S same h =
+    let V : SlotView P → Type 0 = λ v. S (slot_of state (record { starter = v.starter; child = Some child; made = v.made + more; ended = true })) in
+    subst V (sym same) h
+
+pub put_back_only : {P : Type 0} (state : P → StarterState) (was slot : SlotView P) (child : ChildState) (S : SlotState → Type 0) → was ≡ slot → S (record (slot_of state slot) { child = Some child }) → S (slot_of state (record { starter = was.starter; child = Some child; made = was.made; ended = was.ended }))
+put_back_only {P} state was slot child S same h =
+    let V : SlotView P → Type 0 = λ v. S (slot_of state (record { starter = v.starter; child = Some child; made = v.made; ended = v.ended })) in
+    subst V (sym same) h
+
+-- the slot's child runs, and a turn may be made
+pub takes_turn : {P : Type 0} (state : P → StarterState) (h : HostNo) (broker : BrokerState) (was slot : SlotView P) (child : ChildState) → was ≡ slot → was.child ≡ Some child → Stands (state slot.starter).writing broker.world (reverse broker.entries) h (slot_of state slot) → slot.ended ≡ false → slot.made < 65536 → TakesTurn (state slot.starter).writing h broker (slot_of state slot) child
+takes_turn {P} state h broker was slot child same has s unended room = record {
+  stands = s;
+  runs = running_of (state slot.starter).writing broker.world (reverse broker.entries) h (slot_of state slot) child s unended (ap (λ (v : SlotView P). v.child) (sym same) ∙ has);
+  room = room;
+}
+
+-- A start
+
+some_of : {A : Type 0} (o : Option A) → IsSome o → (x : A) × (o ≡ Some x)
+some_of None e = absurd (true≢false (sym e))
+some_of (Some x) e = (x, refl)
+
+pub starts_child : {P : Type 0} (state : P → StarterState) (h : HostNo) (broker : BrokerState) (was slot : SlotView P) (starter : P) (input : InState) (output : OutState) (reader : Unfinished) → was ≡ slot → Stands (state slot.starter).writing broker.world (reverse broker.entries) h (slot_of state slot) → slot.ended ≡ false → slot.child ≡ None → IsSome (program_of broker.world (reverse broker.entries) h)
+    → ((p : Program) → program_of broker.world (reverse broker.entries) h ≡ Some p → (n : ℕ) × ((state was.starter).slot.failed_starts ≤ n) × (state starter ≡ starting (state was.starter) p.path p.arguments n))
+    → ((p : Program) → program_of broker.world (reverse broker.entries) h ≡ Some p → AreFresh (state was.starter).writing p.path input output) → reader.limit ≡ LONGEST_SAID → reader.bytes ≡ []
+    → IsStarted (state slot.starter).writing broker.world h (reverse broker.entries) (reverse broker.entries) (slot_of state slot) (slot_of state (record { starter = starter; child = Some (fresh_child input output reader); made = was.made; ended = was.ended }))
+starts_child {P} state h broker was slot starter input output reader same s unended none known starts fresh limit bytes =
+    let past = reverse broker.entries in
+    let writing = (state slot.starter).writing in
+    let (p, is) = some_of (program_of broker.world past h) known in
+    let (n, least, left) = starts p is in
+    let child = fresh_child input output reader in
+    let F : SlotView P → Type 0 = λ v. AreFresh (state v.starter).writing p.path input output in
+    let base = start_runs broker.world past h (slot_of state slot) p n input output reader s unended none is (subst F same (fresh p is)) limit bytes in
+    let G : SlotState → Type 0 = IsStarted writing broker.world h past past (slot_of state slot) in
+    let V : SlotView P → Type 0 = λ v. G (record { starter = starting (state v.starter) p.path p.arguments n; child = Some child; made = v.made; ended = v.ended }) in
+    let T : StarterState → Type 0 = λ t. G (record { starter = t; child = Some child; made = was.made; ended = was.ended }) in
+    subst T (sym left) (subst V (sym same) base)
+
+pub starts_none : {P : Type 0} (state : P → StarterState) (h : HostNo) (broker new : BrokerState) (was slot : SlotView P) (starter : P) (a : Answer) → was ≡ slot → Stands (state slot.starter).writing broker.world (reverse broker.entries) h (slot_of state slot) → slot.ended ≡ false → slot.child ≡ None → IsSome (program_of broker.world (reverse broker.entries) h)
+    → ((p : Program) → program_of broker.world (reverse broker.entries) h ≡ Some p → (n : ℕ) × Rose (state was.starter).slot.failed_starts n × (state starter ≡ starting (state was.starter) p.path p.arguments n)) → Appends broker new (ByHost h) (HostEnded StartFailed) a
+    → IsStarted (state slot.starter).writing broker.world h (reverse broker.entries) (reverse new.entries) (slot_of state slot) (slot_of state (record { starter = starter; child = was.child; made = 1; ended = true }))
+starts_none {P} state h broker new was slot starter a same s unended none known starts grown =
+    let past = reverse broker.entries in
+    let writing = (state slot.starter).writing in
+    let (p, is) = some_of (program_of broker.world past h) known in
+    let (n, rose, left) = starts p is in
+    let R : SlotView P → Type 0 = λ v. Rose (state v.starter).slot.failed_starts n in
+    let base = start_fails broker.world past h (slot_of state slot) p n a s unended none is (subst R same rose) in
+    let now : reverse new.entries ≡ own h (HostEnded StartFailed) a ∷ past = ap reverse grown.grown ∙ reverse-append broker.entries (own h (HostEnded StartFailed) a ∷ []) in
+    let G : SlotState → Type 0 = IsStarted writing broker.world h past (reverse new.entries) (slot_of state slot) in
+    let E : List Entry → Type 0 = λ after. IsStarted writing broker.world h past after (slot_of state slot) (without_child (slot_of state slot) p n) in
+    let V : SlotView P → Type 0 = λ v. G (record { starter = starting (state v.starter) p.path p.arguments n; child = None; made = 1; ended = true }) in
+    let T : StarterState → Type 0 = λ t. G (record { starter = t; child = None; made = 1; ended = true }) in
+    let C : Option ChildState → Type 0 = λ c. G (record { starter = state starter; child = c; made = 1; ended = true }) in
+    subst C (sym (ap (λ (v : SlotView P). v.child) same ∙ none)) (subst T (sym left) (subst V (sym same) (subst E (sym now) base)))
+
+-- What a turn answers
+
+pub served_turn : {E : Type 0} (writing : Option Writing) (world : WorldLists) (h : HostNo) (before after : List Entry) (old new : SlotState) (result : Result Served E) → IfOk result (λ served. IsServed writing world h before after old new served) → OnOk result (HostTurn h before after)
+served_turn writing world h before after old new (Ok served) s = s.turn
+served_turn writing world h before after old new (Err e) s = tt
+
+pub served_stands : {E : Type 0} (writing : Option Writing) (world : WorldLists) (h : HostNo) (before after : List Entry) (old new : SlotState) (result : Result Served E) → IfOk result (λ served. IsServed writing world h before after old new served) → OnOk result (Stands writing world after h new)
+served_stands writing world h before after old new (Ok served) s = s.stands
+served_stands writing world h before after old new (Err e) s = tt
+
+-- A start, and a turn behind it
+
+pub served_failed : (writing : Option Writing) (world : WorldLists) (h : HostNo) (a b : List Entry) (slot new : SlotState) → IsStarted writing world h a b slot new → new.ended ≡ true → IsServed writing world h a b slot new Moved
+served_failed writing world h a b slot new s ended = record { turn = s.turn ended; stands = s.stands; started = s.started; came = s.less }
+
+came_less : (h : HostNo) (b c : List Entry) (mid new : SlotState) (came : Served) (most : ℕ) → CameTo h b c mid new came → turns_left mid < most → turns_left new < most
+came_less h b c mid new Moved most less first = omega (arith, less, first)
+came_less h b c mid new Rested most came first =
+    let (entries, not_ready, same) = came in
+    let left : turns_left new ≡ turns_left mid = ap turns_left same in
+    omega (arith, left, first)
+
+pub served_behind : (writing : Option Writing) (world : WorldLists) (h : HostNo) (a b c : List Entry) (slot mid new : SlotState) (came : Served) → IsStarted writing world h a b slot mid → mid.ended ≡ false → IsServed writing world h b c mid new came → IsServed writing world h a c slot new Moved
+served_behind writing world h a b c slot mid new came s unended served =
+    let (same, none) = s.no_entry unended in
+    let T : List Entry → Type 0 = λ x. HostTurn h x c in
+    record {
+      turn = subst T same served.turn;
+      stands = served.stands;
+      started = served.started;
+      came = came_less h b c mid new came (turns_left slot) served.came s.less;
+    }
+
+-- A turn of the output
+
+spoken_over : (writing : Option Writing) (world : WorldLists) (past : List Entry) (h : HostNo) (slot after : SlotState) (broker : BrokerState) (lent : Option EntryNo) → Speaks writing world h past slot after (desk_over h broker lent) → HasSpoken writing world h past (reverse broker.entries) slot after
+spoken_over writing world past h slot after broker lent l =
+    let S : List Entry → Type 0 = λ now. HasSpoken writing world h past now slot after in
+    subst S (sym (one_past h h world l.now (reverse broker.entries) (desk_over h broker lent) l.at refl)) l.spoken
+
+pub speaks_moved : (writing : Option Writing) (h : HostNo) (old new : BrokerState) (slot : SlotState) (child : ChildState) (lent : Option EntryNo) (output : OutState) (reader : Unfinished) → TakesTurn writing h old slot child → reader.limit ≡ LONGEST_SAID → IsOutTurn (desk_over h old None) (desk_over h new lent) child.reader reader child.output output out.Moved
+    → HasSpoken writing old.world h (reverse old.entries) (reverse new.entries) slot (after_turn slot (with_output child output reader) 1)
+speaks_moved writing h old new slot child lent output reader t limit turn =
+    let past = reverse old.entries in
+    let S : Bool → Type 0 = λ b. HasSpoken writing old.world h past (reverse new.entries) slot (behind_turn slot (with_output child output reader) 1 b) in
+    subst S (sym t.runs.unended) (spoken_over writing old.world past h slot (behind_turn slot (with_output child output reader) 1 false) new lent
+    (out_moved writing old.world past h slot child (desk_over h old None) (desk_over h new lent) output reader (at_first h old None) t.stands t.runs t.room limit turn))
+
+pub speaks_ended : (writing : Option Writing) (h : HostNo) (old new : BrokerState) (slot : SlotState) (child : ChildState) (lent : Option EntryNo) (output : OutState) (reader : Unfinished) → TakesTurn writing h old slot child → IsOutTurn (desk_over h old None) (desk_over h new lent) child.reader reader child.output output out.Ended
+    → HasSpoken writing old.world h (reverse old.entries) (reverse new.entries) slot (behind_turn slot (with_output child output reader) 1 true)
+speaks_ended writing h old new slot child lent output reader t turn =
+    let past = reverse old.entries in
+    spoken_over writing old.world past h slot (behind_turn slot (with_output child output reader) 1 true) new lent
+    (out_ended writing old.world past h slot child (desk_over h old None) (desk_over h new lent) output reader (at_first h old None) t.stands t.runs t.room turn)
+
+pub speaks_never_waits : (writing : Option Writing) (h : HostNo) (old new : BrokerState) (slot : SlotState) (child : ChildState) (lent : Option EntryNo) (output : OutState) (reader : Unfinished) → TakesTurn writing h old slot child → is_host_ready (reverse old.entries) h ≡ false → ¬ IsOutTurn (desk_over h old None) (desk_over h new lent) child.reader reader child.output output out.Waits
+speaks_never_waits writing h old new slot child lent output reader t ready turn =
+    never_waits h old.world (reverse old.entries) (desk_over h old None) (desk_over h new lent) child.reader reader child.output output (at_first h old None) ready t.runs.not_over turn

@@ -1,0 +1,67 @@
+-- Slots for the hosts that have none.
+use Rattle.std.proofs.Common.{◌≡◌, ℕ, ◌+◌, ◌-◌, ◌*◌, ◌<◌, ◌≤◌, length, cond, arith, Bool, true, List, [], ◌∷◌, ◌++◌, refl, sym, ap, ◌∙◌, subst}
+use Rattle.std.specs.Prelude.{Some, None}
+use Rattle.std.proofs.lemmas.List.{length-append}
+use Rattle.wx_external.specs.World.{WorldLists}
+use Rattle.wx_machine.specs.declared.entries.Entry.{Entry}
+use Rattle.wx_machine.specs.Hosts.{hosts}
+use Rattle.wx_host_launch.specs.Records.{StarterState, slot_like, with_place}
+use Rattle.wx_host_slot.specs.Slots.{SlotState, waiting_slot, turns_left, host_limit}
+use Rattle.wx_run.specs.Hosts.{host_numbered}
+use Rattle.wx_run.specs.Slots.{HostsStand, first_spent_slot, all_turns_left, keeping}
+use Rattle.wx_run.proofs.SlotLemmas.{hosts_stand_append}
+use Rattle.wx_run.proofs.ServeLemmas.{spent_split}
+
+-- slots were added so far, with waiting hosts, and a place was kept for each
+pub record AddedSoFar (world : WorldLists) (past : List Entry) (start now : StarterState) (old slots : List SlotState) : Type 0 where
+  pub stand : HostsStand start.writing world past slots
+  pub more : length old ≤ length slots
+  pub unspent : first_spent_slot 0 old ≡ None → first_spent_slot 0 slots ≡ None
+  pub left : all_turns_left slots ≡ all_turns_left old + (host_limit + 4) * (length slots - length old)
+  pub kept : now ≡ keeping (length slots - length old) start
+
+unspent_append : (slots : List SlotState) (n : ℕ) (starter : StarterState) → first_spent_slot n slots ≡ None → first_spent_slot n (slots ++ waiting_slot starter ∷ []) ≡ None
+unspent_append [] n starter none = refl
+unspent_append (p ∷ slots) n starter none =
+    let rest = spent_split _ (host_numbered n) (first_spent_slot (n + 1) slots) none in
+    ap (λ b. cond b (Some (host_numbered n)) (first_spent_slot (n + 1) (slots ++ waiting_slot starter ∷ []))) rest.0 ∙ unspent_append slots (n + 1) starter rest.1
+
+left_append : (slots : List SlotState) (q : SlotState) → all_turns_left (slots ++ q ∷ []) ≡ all_turns_left slots + turns_left q
+left_append [] q = omega arith
+left_append (p ∷ slots) q = omega (arith, left_append slots q)
+
+pub adding_begins : (world : WorldLists) (past : List Entry) (start : StarterState) (slots : List SlotState) → HostsStand start.writing world past slots → AddedSoFar world past start start slots slots
+adding_begins world past start slots stand =
+    let none : length slots - length slots ≡ 0 = omega arith in
+    record {
+      stand = stand;
+      more = omega arith;
+      unspent = λ none. none;
+      left = omega arith;
+      kept = ap (λ n. record start { places = n }) (let same : start.places ≡ start.places + (length slots - length slots) = omega arith in same);
+    }
+
+-- one more is added
+pub slot_added : (world : WorldLists) (past : List Entry) (start now : StarterState) (old slots : List SlotState) → AddedSoFar world past start now old slots → length slots < length (hosts past)
+    → AddedSoFar world past start (with_place now) old (slots ++ waiting_slot (slot_like now) ∷ [])
+slot_added world past start now old slots so below =
+    let q = waiting_slot (slot_like now) in
+    let writing : now.writing ≡ start.writing = ap (λ s. s.writing) so.kept in
+    let size = length-append slots (q ∷ []) in
+    let more = so.more in
+    let places : start.places + (length slots - length old) + 1 ≡ start.places + (length (slots ++ q ∷ []) - length old) = omega (arith, size, more) in
+    record {
+      stand = subst (λ w. HostsStand w world past (slots ++ q ∷ [])) writing (hosts_stand_append world past slots now (subst (λ w. HostsStand w world past slots) (sym writing) so.stand) below);
+      more = omega (arith, size, more);
+      unspent = λ none. unspent_append slots 0 (slot_like now) (so.unspent none);
+      left = (let left = left_append slots q in omega (arith, size, more, left, so.left));
+      kept = ap with_place so.kept ∙ ap (λ n. record start { places = n }) places;
+    }
+
+-- the same, as the loop has it
+pub slot_pushed : (world : WorldLists) (past : List Entry) (start now next one : StarterState) (old slots more : List SlotState) (q : SlotState) (ok : Bool) → AddedSoFar world past start now old slots → length slots < length (hosts past)
+    → one ≡ slot_like now → next ≡ with_place now → q ≡ waiting_slot one → more ≡ cond ok (slots ++ q ∷ []) slots → ok ≡ true → AddedSoFar world past start next old more
+slot_pushed world past start now next one old slots more q ok so below is_one is_next is_q is_more is_ok =
+    let pushed : more ≡ slots ++ waiting_slot (slot_like now) ∷ [] = is_more ∙ ap (λ b. cond b (slots ++ q ∷ []) slots) is_ok ∙ ap (λ q. slots ++ q ∷ []) (is_q ∙ ap waiting_slot is_one) in
+    subst (λ s. AddedSoFar world past start next old s) (sym pushed)
+    (subst (λ n. AddedSoFar world past start n old (slots ++ waiting_slot (slot_like now) ∷ [])) (sym is_next) (slot_added world past start now old slots so below))

@@ -1,0 +1,332 @@
+-- The hosts' part of a round, turn by turn. Every list of entries has the newest first.
+use Rattle.std.proofs.Common.{◌≡◌, ℕ, zero, suc, ◌+◌, ◌<◌, ◌≤◌, ◌⊎◌, inl, inr, length, set, get_or, cond, arith, Bool, true, false, List, [], ◌∷◌, refl, sym, ap, ◌∙◌, subst}
+use Rattle.std.specs.declared.option.Option.{Option}
+use Rattle.std.specs.Prelude.{◌||◌, slice_get, Some, None}
+use Rattle.std.proofs.lemmas.Bool.{cases_lt}
+use Rattle.std.proofs.lemmas.List.{length-set}
+use Rattle.std.proofs.lemmas.Option.{slice_get_within, slice_get_read}
+use Rattle.wx_id.specs.declared.numbers.HostNo.{HostNo}
+use Rattle.wx_external.specs.World.{WorldLists}
+use Rattle.wx_machine.specs.declared.entries.Entry.{Entry}
+use Rattle.wx_machine.specs.Hosts.{hosts}
+use Rattle.wx_machine.specs.Texts.{has_ended}
+use Rattle.wx_machine.specs.Answers.{is_host_ready}
+use Rattle.wx_script.specs.declared.scene.SpentWho.TheVariants.{Host}
+use Rattle.wx_host_launch.specs.Records.{Writing}
+use Rattle.wx_host_slot.specs.Slots.{SlotState, Stands, WasStarted, is_spent_at, turns_left, CameTo}
+use Rattle.wx_host_slot.specs.Turns.{HostTurn, SaysOrEnds}
+use Rattle.wx_host_slot.specs.declared.slot.Served.{Served}
+use Rattle.wx_host_slot.specs.declared.slot.Served.TheVariants as served
+use Rattle.wx_run.specs.declared.rounds.Rounded.TheVariants.{Moved, Idle, Spent}
+use Rattle.wx_run.specs.Hosts.{host_numbered, HaveEnded, IsFirstUnended, HostTurns, spent_host}
+use Rattle.wx_run.specs.Slots.{HostsStand, AllWereStarted, first_spent_slot, first_unended_slot, all_turns_left, is_moved}
+use Rattle.wx_run.specs.Serving.{HostsServed, FirstHeard}
+use Rattle.wx_run.proofs.ListLemmas.{set_same, element_at}
+use Rattle.wx_run.proofs.HostEntries.{Adds, turn_adds, says_adds, adds_hosts, host_turns_stay, hosts_stay}
+use Rattle.wx_run.proofs.SlotLemmas.{ended_so, stand_at, hosts_stand_set, spent_is_first}
+
+-- ---- lists of slots
+
+pub spent_split : (b : Bool) (h : HostNo) (o : Option HostNo) → cond b (Some h) o ≡ None → (b ≡ false) × (o ≡ None)
+spent_split true h o is = absurd cc
+spent_split false h o is = (refl, is)
+
+pub unspent_slot : (slots : List SlotState) (n i : ℕ) (p : SlotState) → first_spent_slot n slots ≡ None → slice_get slots i ≡ Some p → is_spent_at p ≡ false
+unspent_slot [] n i p none is = absurd cc
+unspent_slot (r ∷ slots) n zero p none is =
+    let same : r ≡ p = cc in
+    subst (λ p. is_spent_at p ≡ false) same (spent_split (is_spent_at r) (host_numbered n) (first_spent_slot (n + 1) slots) none).0
+unspent_slot (r ∷ slots) n (suc i) p none is = unspent_slot slots (n + 1) i p (spent_split (is_spent_at r) (host_numbered n) (first_spent_slot (n + 1) slots) none).1 is
+
+-- an unspent slot is set, and none is spent
+pub unspent_set : (slots : List SlotState) (n i : ℕ) (q : SlotState) → first_spent_slot n slots ≡ None → is_spent_at q ≡ false → first_spent_slot n (set slots i q) ≡ None
+unspent_set [] n i q none is = refl
+unspent_set (r ∷ slots) n zero q none is =
+    ap (λ b. cond b (Some (host_numbered n)) (first_spent_slot (n + 1) slots)) is
+    ∙ (spent_split (is_spent_at r) (host_numbered n) (first_spent_slot (n + 1) slots) none).1
+unspent_set (r ∷ slots) n (suc i) q none is =
+    let rest = spent_split (is_spent_at r) (host_numbered n) (first_spent_slot (n + 1) slots) none in
+    ap (λ b. cond b (Some (host_numbered n)) (first_spent_slot (n + 1) (set slots i q))) rest.0 ∙ unspent_set slots (n + 1) i q rest.1 is
+
+-- a spent slot is set, and it is the first
+pub spent_set : (slots : List SlotState) (n i m : ℕ) (q : SlotState) → i < length slots → m ≡ n + i → first_spent_slot n slots ≡ None → is_spent_at q ≡ true → first_spent_slot n (set slots i q) ≡ Some (host_numbered m)
+spent_set [] n i m q below at none is = absurd (omega arith)
+spent_set (r ∷ slots) n zero m q below at none is =
+    let here : n ≡ m = omega arith in
+    ap (λ b. cond b (Some (host_numbered n)) (first_spent_slot (n + 1) slots)) is ∙ ap (λ m. Some (host_numbered m)) here
+spent_set (r ∷ slots) n (suc i) m q below at none is =
+    let rest = spent_split (is_spent_at r) (host_numbered n) (first_spent_slot (n + 1) slots) none in
+    let next : m ≡ n + 1 + i = omega arith in
+    ap (λ b. cond b (Some (host_numbered n)) (first_spent_slot (n + 1) (set slots i q))) rest.0 ∙ spent_set slots (n + 1) i m q (omega arith) next rest.1 is
+
+-- fewer turns are left of one, and so of all
+pub fewer_left : (slots : List SlotState) (i : ℕ) (p q : SlotState) → slice_get slots i ≡ Some p → turns_left q < turns_left p → all_turns_left (set slots i q) < all_turns_left slots
+fewer_left [] i p q is less = absurd cc
+fewer_left (r ∷ slots) zero p q is less =
+    let same : r ≡ p = cc in
+    let so = ap turns_left same in
+    omega (arith, so, less)
+fewer_left (r ∷ slots) (suc i) p q is less = omega (arith, fewer_left slots i p q is less)
+
+all_started : (slots : List SlotState) → ((j : ℕ) (p : SlotState) → slice_get slots j ≡ Some p → WasStarted p) → AllWereStarted slots
+all_started [] each = tt
+all_started (p ∷ slots) each = (each 0 p refl, all_started slots (λ j r is. each (suc j) r is))
+
+pub started_at : (slots : List SlotState) (i : ℕ) (p : SlotState) → AllWereStarted slots → slice_get slots i ≡ Some p → WasStarted p
+started_at [] i p all is = absurd cc
+started_at (r ∷ slots) zero p all is = let same : r ≡ p = cc in subst WasStarted same all.0
+started_at (r ∷ slots) (suc i) p all is = started_at slots i p all.1 is
+
+-- ---- one host's turn
+
+-- The slot at a place became another in a turn of its host.
+pub record IsTurnOf (world : WorldLists) (i : ℕ) (slots : List SlotState) (before after : List Entry) (p q : SlotState) : Type 0 where
+  pub at : slice_get slots i ≡ Some p
+  pub adds : Adds (host_numbered i) before after
+  pub stands : Stands p.starter.writing world after (host_numbered i) q
+
+-- all hosts stand behind it
+pub stand_behind : (writing : Option Writing) (world : WorldLists) (i : ℕ) (slots : List SlotState) (a b : List Entry) (p q : SlotState) → first_spent_slot 0 slots ≡ None → IsTurnOf world i slots a b p q → HostsStand writing world a slots
+    → HostsStand writing world b (set slots i q)
+stand_behind writing world i slots a b p q unspent turn so =
+    let same = (stand_at writing world a slots 0 i i p so.stand turn.at (omega arith)).same_writing in
+    hosts_stand_set writing world a b slots i p q so turn.at (unspent_slot slots 0 i p unspent turn.at) turn.adds (subst (λ w. Stands w world b (host_numbered i) q) same turn.stands)
+
+-- where its host is spent behind it, that is the first
+pub spent_behind_turn : (writing : Option Writing) (world : WorldLists) (i : ℕ) (slots : List SlotState) (a b : List Entry) (p q : SlotState) → first_spent_slot 0 slots ≡ None → IsTurnOf world i slots a b p q → HostsStand writing world a slots
+    → length slots ≡ length (hosts a) → is_spent_at q ≡ true → spent_host b ≡ Some (host_numbered i)
+spent_behind_turn writing world i slots a b p q unspent turn so all is =
+    let kept = ap length (adds_hosts (host_numbered i) a b turn.adds) in
+    let size = length-set slots i q in
+    spent_is_first writing world b (set slots i q) (stand_behind writing world i slots a b p q unspent turn so) (omega (arith, kept, size, all))
+    ∙ spent_set slots 0 i i q (slice_get_within slots i p turn.at) (omega arith) unspent is
+
+-- ---- the turns of the first hosts
+
+-- In their turns the first i hosts did nothing, as there was nothing to take; and their programs were started.
+pub record RestedBelow (i : ℕ) (old slots : List SlotState) (before after : List Entry) : Type 0 where
+  pub same : after ≡ before
+  pub same_slots : slots ≡ old
+  pub none_ready : (h : HostNo) → h.0 < i → is_host_ready before h ≡ false
+  pub started : (j : ℕ) (p : SlotState) → j < i → slice_get old j ≡ Some p → WasStarted p
+
+-- fewer turns are left, where one did something
+abbrev pub RestedUnlessMoved : ℕ → List SlotState → List SlotState → List Entry → List Entry → Bool → Type 0
+RestedUnlessMoved i old slots before after true = all_turns_left slots < all_turns_left old
+RestedUnlessMoved i old slots before after false = RestedBelow i old slots before after
+
+-- the first i hosts made their turns, and none is spent
+pub record ServedSoFar (world : WorldLists) (i : ℕ) (old slots : List SlotState) (before after : List Entry) (moved : Bool) : Type 0 where
+  pub same_size : length slots ≡ length old
+  pub stand : (writing : Option Writing) → HostsStand writing world before old → HostsStand writing world after slots
+  pub turns : HostTurns i before after
+  pub unspent : first_spent_slot 0 slots ≡ None
+  pub rest : RestedUnlessMoved i old slots before after moved
+
+pub serving_begins : (world : WorldLists) (old : List SlotState) (a : List Entry) → first_spent_slot 0 old ≡ None → ServedSoFar world 0 old old a a false
+serving_begins world old a unspent = record {
+  same_size = refl;
+  stand = λ writing so. so;
+  turns = refl;
+  unspent = unspent;
+  rest = record { same = refl; same_slots = refl; none_ready = λ h below. absurd (omega arith); started = λ j p below is. absurd (omega arith) };
+}
+
+-- a slot at a place, as its host's turn asks for it
+pub record IsSlotAt (world : WorldLists) (i : ℕ) (slots : List SlotState) (past : List Entry) (p : SlotState) : Type 0 where
+  pub at : slice_get slots i ≡ Some p
+  pub stands : Stands p.starter.writing world past (host_numbered i) p
+  pub unspent : is_spent_at p ≡ false
+
+pub slot_at : (writing : Option Writing) (world : WorldLists) (i : ℕ) (slots : List SlotState) (past : List Entry) (p : SlotState) → HostsStand writing world past slots → first_spent_slot 0 slots ≡ None → i < length slots → p ≡ get_or slots i p → IsSlotAt world i slots past p
+slot_at writing world i slots past p so unspent below read =
+    let at = slice_get_read slots (length slots) i p refl below read in
+    let stands = stand_at writing world past slots 0 i i p so.stand at (omega arith) in
+    record { at = at; stands = subst (λ w. Stands w world past (host_numbered i) p) (sym stands.same_writing) stands; unspent = unspent_slot slots 0 i p unspent at }
+
+-- What the turn of the next host was and came to.
+pub record IsNextTurn (world : WorldLists) (i : ℕ) (slots : List SlotState) (before after : List Entry) (p q : SlotState) (came : Served) : Type 0 where
+  pub at : slice_get slots i ≡ Some p
+  pub turn : HostTurn (host_numbered i) before after
+  pub stands : Stands p.starter.writing world after (host_numbered i) q
+  pub started : WasStarted q
+  pub came_to : CameTo (host_numbered i) before after p q came
+
+pub is_turn : (world : WorldLists) (i : ℕ) (slots : List SlotState) (a b : List Entry) (p q : SlotState) (came : Served) → IsNextTurn world i slots a b p q came → IsTurnOf world i slots a b p q
+is_turn world i slots a b p q came next = record { at = next.at; adds = turn_adds (host_numbered i) a b next.turn; stands = next.stands }
+
+started_below : (i : ℕ) (old : List SlotState) (p : SlotState) → slice_get old i ≡ Some p → WasStarted p → ((j : ℕ) (r : SlotState) → j < i → slice_get old j ≡ Some r → WasStarted r)
+    → (j : ℕ) (r : SlotState) → j < suc i → slice_get old j ≡ Some r → WasStarted r
+started_below i old p at started below j r less is = elim (cases_lt j i) [
+  | inl before ↦ below j r before is
+  | inr behind ↦
+      let here : j ≡ i = omega (arith, less, behind) in
+      let same : p ≡ r = (let both : Some p ≡ Some r = sym at ∙ ap (slice_get old) (sym here) ∙ is in cc) in
+      subst WasStarted same started
+]
+
+none_ready_below : (i : ℕ) (a : List Entry) → ((h : HostNo) → h.0 < i → is_host_ready a h ≡ false) → is_host_ready a (host_numbered i) ≡ false → (h : HostNo) → h.0 < suc i → is_host_ready a h ≡ false
+none_ready_below i a below last h less = elim (cases_lt h.0 i) [
+  | inl before ↦ below h before
+  | inr behind ↦ (let here : i ≡ h.0 = omega (arith, less, behind) in subst (λ m. is_host_ready a (host_numbered m) ≡ false) here last)
+]
+
+rests_on : (world : WorldLists) (i : ℕ) (old slots : List SlotState) (a b c : List Entry) (p q : SlotState) → RestedBelow i old slots a b → IsNextTurn world i slots b c p q served.Rested → RestedBelow (suc i) old (set slots i q) a c
+rests_on world i old slots a b c p q rest next =
+    let (same, not_ready, unchanged) = next.came_to in
+    let at : slice_get old i ≡ Some p = subst (λ s. slice_get s i ≡ Some p) rest.same_slots next.at in
+    record {
+      same = same ∙ rest.same;
+      same_slots = ap (set slots i) unchanged ∙ set_same slots i p next.at ∙ rest.same_slots;
+      none_ready = none_ready_below i a rest.none_ready (ap (λ j. is_host_ready j (host_numbered i)) (sym rest.same) ∙ not_ready);
+      started = started_below i old p at (subst WasStarted unchanged next.started) rest.started;
+    }
+
+rest_behind : (world : WorldLists) (i : ℕ) (old slots : List SlotState) (a b c : List Entry) (p q : SlotState) (moved : Bool) (came : Served) → RestedUnlessMoved i old slots a b moved → IsNextTurn world i slots b c p q came
+    → RestedUnlessMoved (suc i) old (set slots i q) a c (moved || is_moved came)
+rest_behind world i old slots a b c p q true served.Moved rest next = let less = fewer_left slots i p q next.at next.came_to in omega (arith, less, rest)
+rest_behind world i old slots a b c p q false served.Moved rest next =
+    let less = fewer_left slots i p q next.at next.came_to in
+    let same = ap all_turns_left rest.same_slots in
+    omega (arith, less, same)
+rest_behind world i old slots a b c p q true served.Rested rest next =
+    let same : set slots i q ≡ slots = ap (set slots i) next.came_to.2 ∙ set_same slots i p next.at in
+    let left = ap all_turns_left same in
+    omega (arith, left, rest)
+rest_behind world i old slots a b c p q false served.Rested rest next = rests_on world i old slots a b c p q rest next
+
+-- one more host made its turn, and is not spent
+turn_served_next : (world : WorldLists) (i : ℕ) (old slots : List SlotState) (a b c : List Entry) (p q : SlotState) (moved : Bool) (came : Served) → ServedSoFar world i old slots a b moved → IsNextTurn world i slots b c p q came → is_spent_at q ≡ false
+    → ServedSoFar world (suc i) old (set slots i q) a c (moved || is_moved came)
+turn_served_next world i old slots a b c p q moved came so next unspent = record {
+  same_size = length-set slots i q ∙ so.same_size;
+  stand = λ writing first. stand_behind writing world i slots b c p q so.unspent (is_turn world i slots b c p q came next) (so.stand writing first);
+  turns = (b, so.turns, next.turn);
+  unspent = unspent_set slots 0 i q so.unspent unspent;
+  rest = rest_behind world i old slots a b c p q moved came so.rest next;
+}
+
+pub turn_served : (world : WorldLists) (i : ℕ) (old slots : List SlotState) (a b c : List Entry) (p q : SlotState) (moved served : Bool) (came : Served) → ServedSoFar world i old slots a b moved → IsNextTurn world i slots b c p q came → served ≡ is_moved came
+    → is_spent_at q ≡ false → ServedSoFar world (i + 1) old (set slots i q) a c (moved || served)
+turn_served world i old slots a b c p q moved served came so next is unspent =
+    let one : suc i ≡ i + 1 = omega arith in
+    subst (λ n. ServedSoFar world n old (set slots i q) a c (moved || served)) one
+    (subst (λ m. ServedSoFar world (suc i) old (set slots i q) a c (moved || m)) (sym is) (turn_served_next world i old slots a b c p q moved came so next unspent))
+
+-- one more host made its turn, and is spent
+pub turn_spends : (writing : Option Writing) (world : WorldLists) (i : ℕ) (old slots : List SlotState) (a b c : List Entry) (p q : SlotState) (moved : Bool) (came : Served) → HostsStand writing world a old → length old ≡ length (hosts a)
+    → ServedSoFar world i old slots a b moved → IsNextTurn world i slots b c p q came → is_spent_at q ≡ true → HostsServed a c old (set slots i q) (Spent (Host (host_numbered i)))
+turn_spends writing world i old slots a b c p q moved came first all so next is =
+    let kept = ap length (hosts_stay a b (host_turns_stay i a b so.turns)) in
+    let within = slice_get_within slots i p next.at in (
+      suc i,
+      omega (arith, within, all, so.same_size),
+      (b, so.turns, next.turn),
+      spent_behind_turn writing world i slots b c p q so.unspent (is_turn world i slots b c p q came next) (so.stand writing first) (omega (arith, kept, all, so.same_size)) is,
+    )
+
+-- ---- all hosts
+
+pub all_moved : (world : WorldLists) (i : ℕ) (old slots : List SlotState) (a b : List Entry) → i ≡ length (hosts a) → ServedSoFar world i old slots a b true → HostsServed a b old slots Moved
+all_moved world i old slots a b all so = (subst (λ n. HostTurns n a b) all so.turns, so.unspent, so.rest)
+
+pub all_rested : (world : WorldLists) (i : ℕ) (old slots : List SlotState) (a b : List Entry) → i ≡ length (hosts a) → length old ≡ length (hosts a) → ServedSoFar world i old slots a b false → HostsServed a b old slots Idle
+all_rested world i old slots a b all size so =
+    let rest = so.rest in
+    let started = all_started old (λ j p is. let within = slice_get_within old j p is in rest.started j p (omega (arith, within, all, size)) is) in
+    (rest.same, λ h below. rest.none_ready h (omega (arith, all, below)), subst AllWereStarted (sym rest.same_slots) started, so.unspent, rest.same_slots)
+
+-- ---- the first host that has not ended
+
+-- the slot at a place is the first whose host has not ended
+pub record IsUnendedAt (n m : ℕ) (slots : List SlotState) : Type 0 where
+  pub i : ℕ
+  pub slot : SlotState
+  pub place : m ≡ n + i
+  pub at : slice_get slots i ≡ Some slot
+  pub unended : slot.ended ≡ false
+  pub first : (j : ℕ) (p : SlotState) → j < i → slice_get slots j ≡ Some p → p.ended ≡ true
+
+unended_split : (b : Bool) (n m : ℕ) (o : Option ℕ) → cond b o (Some n) ≡ Some m → ((b ≡ true) × (o ≡ Some m)) ⊎ ((b ≡ false) × (m ≡ n))
+unended_split true n m o is = inl (refl, is)
+unended_split false n m o is = inr (refl, (let same : m ≡ n = cc in same))
+
+ended_before : (r : SlotState) (slots : List SlotState) (i : ℕ) → r.ended ≡ true → ((j : ℕ) (p : SlotState) → j < i → slice_get slots j ≡ Some p → p.ended ≡ true)
+    → (j : ℕ) (p : SlotState) → j < suc i → slice_get (r ∷ slots) j ≡ Some p → p.ended ≡ true
+ended_before r slots i ended others zero p less is = let same : r ≡ p = cc in subst (λ p. p.ended ≡ true) same ended
+ended_before r slots i ended others (suc j) p less is = others j p (omega (arith, less)) is
+
+pub unended_at : (slots : List SlotState) (n m : ℕ) → first_unended_slot n slots ≡ Some m → IsUnendedAt n m slots
+unended_at [] n m is = absurd cc
+unended_at (r ∷ slots) n m is = elim (unended_split r.ended n m (first_unended_slot (n + 1) slots) is) [
+  | inl (ended, found) ↦
+      let later = unended_at slots (n + 1) m found in
+      record { i = suc later.i; slot = later.slot; place = (let place = later.place in omega arith); at = later.at; unended = later.unended; first = ended_before r slots later.i ended later.first }
+  | inr (unended, here) ↦ record { i = 0; slot = r; place = omega (arith, here); at = refl; unended = unended; first = λ j p less at. absurd (omega arith) }
+]
+
+none_unended : (slots : List SlotState) (n : ℕ) → first_unended_slot n slots ≡ None → (j : ℕ) (p : SlotState) → slice_get slots j ≡ Some p → p.ended ≡ true
+none_unended [] n none j p is = absurd cc
+none_unended (r ∷ slots) n none j p is = elim r.ended as (λ b. r.ended ≡ b → cond b (first_unended_slot (n + 1) slots) (Some n) ≡ None → p.ended ≡ true) [
+  | true ↦ λ ended rest. ended_before r slots (length slots) ended (λ k s less at. none_unended slots (n + 1) rest k s at) j p (slice_get_within (r ∷ slots) j p is) is
+  | false ↦ λ ended never. absurd cc
+] refl none
+
+-- hosts whose slots have ended have ended
+ended_below : (writing : Option Writing) (world : WorldLists) (past : List Entry) (slots : List SlotState) (n : ℕ) → HostsStand writing world past slots → n ≤ length slots → ((j : ℕ) (p : SlotState) → j < n → slice_get slots j ≡ Some p → p.ended ≡ true)
+    → (h : HostNo) → h.0 < n → has_ended past h ≡ true
+ended_below writing world past slots n so within ended h below =
+    let (p, is) = element_at slots h.0 (omega (arith, within, below)) in
+    sym (ended_so writing world past h p (stand_at writing world past slots 0 h.0 h.0 p so.stand is (omega arith))) ∙ ended h.0 p below is
+
+pub all_ended : (writing : Option Writing) (world : WorldLists) (past : List Entry) (slots : List SlotState) → HostsStand writing world past slots → length slots ≡ length (hosts past) → first_unended_slot 0 slots ≡ None → HaveEnded past
+all_ended writing world past slots so all none h below = ended_below writing world past slots (length slots) so (omega arith) (λ j p less is. none_unended slots 0 none j p is) h (omega (arith, all, below))
+
+pub is_first_unended : (writing : Option Writing) (world : WorldLists) (past : List Entry) (slots : List SlotState) (m : ℕ) → HostsStand writing world past slots → first_unended_slot 0 slots ≡ Some m → IsFirstUnended past (host_numbered m)
+is_first_unended writing world past slots m so found =
+    let first = unended_at slots 0 m found in
+    let within = slice_get_within slots first.i first.slot first.at in
+    let place = first.place in
+    record {
+      is_host = omega (arith, so.below, within, place);
+      unended = sym (ended_so writing world past (host_numbered m) first.slot (stand_at writing world past slots 0 first.i m first.slot so.stand first.at first.place)) ∙ first.unended;
+      first = ended_below writing world past slots m so (omega (arith, within, place)) (λ j p less is. first.first j p (omega (arith, less, place)) is);
+    }
+
+-- What the turn of the first host was.
+pub record IsHeardTurn (world : WorldLists) (i : ℕ) (slots : List SlotState) (before after : List Entry) (p q : SlotState) : Type 0 where
+  pub at : slice_get slots i ≡ Some p
+  pub first : IsFirstUnended before (host_numbered i)
+  pub turn : SaysOrEnds (host_numbered i) before after
+  pub stands : Stands p.starter.writing world after (host_numbered i) q
+  pub less : turns_left q < turns_left p
+
+-- the slot of the first host that has not ended, as its turn asks for it
+pub record IsFirstSlot (world : WorldLists) (i : ℕ) (slots : List SlotState) (past : List Entry) (p : SlotState) : Type 0 where
+  pub slot : IsSlotAt world i slots past p
+  pub first : IsFirstUnended past (host_numbered i)
+  pub unended : p.ended ≡ false
+  pub started : WasStarted p
+
+pub first_slot : (writing : Option Writing) (world : WorldLists) (i : ℕ) (slots : List SlotState) (past : List Entry) (p : SlotState) → HostsStand writing world past slots → length slots ≡ length (hosts past) → first_spent_slot 0 slots ≡ None → AllWereStarted slots
+    → first_unended_slot 0 slots ≡ Some i → p ≡ get_or slots i p → IsFirstSlot world i slots past p
+first_slot writing world i slots past p so all unspent started found read =
+    let first = is_first_unended writing world past slots i so found in
+    let slot = slot_at writing world i slots past p so unspent (let below = first.is_host in omega (arith, below, all)) read in
+    record {
+      slot = slot;
+      first = first;
+      unended = ended_so p.starter.writing world past (host_numbered i) p slot.stands ∙ first.unended;
+      started = started_at slots i p started slot.at;
+    }
+
+pub heard_turn : (world : WorldLists) (i : ℕ) (slots : List SlotState) (a b : List Entry) (p q : SlotState) → IsHeardTurn world i slots a b p q → IsTurnOf world i slots a b p q
+heard_turn world i slots a b p q heard = record { at = heard.at; adds = says_adds (host_numbered i) a b heard.first.unended heard.turn; stands = heard.stands }
+
+pub heard_moved : (world : WorldLists) (i : ℕ) (slots : List SlotState) (a b : List Entry) (p q : SlotState) → first_spent_slot 0 slots ≡ None → IsHeardTurn world i slots a b p q → is_spent_at q ≡ false → FirstHeard a b slots (set slots i q) Moved
+heard_moved world i slots a b p q unspent heard is = ((host_numbered i, heard.first, heard.turn), unspent_set slots 0 i q unspent is, fewer_left slots i p q heard.at heard.less)
+
+pub heard_spent : (writing : Option Writing) (world : WorldLists) (i : ℕ) (slots : List SlotState) (a b : List Entry) (p q : SlotState) → HostsStand writing world a slots → length slots ≡ length (hosts a) → first_spent_slot 0 slots ≡ None
+    → IsHeardTurn world i slots a b p q → is_spent_at q ≡ true → FirstHeard a b slots (set slots i q) (Spent (Host (host_numbered i)))
+heard_spent writing world i slots a b p q so all unspent heard is =
+    ((host_numbered i, heard.first, heard.turn), spent_behind_turn writing world i slots a b p q unspent (heard_turn world i slots a b p q heard) so all is)
