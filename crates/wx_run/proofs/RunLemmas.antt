@@ -223,6 +223,14 @@ pub heard_next : (world : WorldLists) (scripts : List (List Command)) (ps : List
 heard_next world scripts ps old new a b c (Ok r) stand idle heard legal = next_heard world scripts ps old new a b c r (heard_stand world scripts ps old new b c r stand heard legal) idle heard
 heard_next world scripts ps old new a b c (Err e) stand idle heard legal = tt
 
+then_lessens : (m n k : ℕ) (r : Rounded) → n ≡ m → TurnsLessen n k r → TurnsLessen m k r
+then_lessens m n k r same less = subst (λ n. TurnsLessen n k r) same less
+
+pub heard_lessens_on : (before : ℕ) (scripts : List (List Command)) (ps : List CursorState) (old new : List SlotState) (a b c : List Entry) (result : Result Rounded NoMemory) → IsWholeRound scripts ps old a b Idle → turns_in ps old b ≡ before
+    → length new ≡ length old → IfOk result (λ r. FirstHeard b c old new r) → IfOk result (λ r. TurnsLessen before (turns_in ps new c) r)
+heard_lessens_on before scripts ps old new a b c (Ok r) idle same same_size heard = then_lessens before (turns_in ps old b) (turns_in ps new c) r same (heard_lessens ps old new b c r idle.4 same_size heard)
+heard_lessens_on before scripts ps old new a b c (Err e) idle same same_size heard = tt
+
 -- ---- places
 
 keeping_none : (n : ℕ) (s : StarterState) → s ≡ keeping (n - n) s

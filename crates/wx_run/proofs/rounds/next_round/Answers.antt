@@ -4,8 +4,8 @@ use Rattle.wx_machine.specs.Answers.{IsLegal}
 use Rattle.wx_host_slot.specs.Slots.{slots_of}
 use Rattle.wx_run.specs.declared.rounds.Rounded.TheVariants.{Idle}
 use Rattle.wx_run.specs.Cursors.{scripts_in}
-use Rattle.wx_run.specs.Running.{IsWholeRound}
-use Rattle.wx_run.proofs.RunLemmas.{heard_stands, heard_next, next_whole}
+use Rattle.wx_run.specs.Running.{IsWholeRound, turns_in, TurnsLessen}
+use Rattle.wx_run.proofs.RunLemmas.{heard_stands, heard_next, heard_lessens_on, next_whole, same_sizes}
 use Rattle.wx_run.proofs.rounds.next_round.Goals as goal
 
 pub returns-in-Idle-clause-stand : goal.returns-in-Idle-clause-stand
@@ -24,6 +24,20 @@ returns-in-Idle-clause-round g c =
     let legal : OnOk c.hear_first.result (IsLegal c.args.desk.now.broker.world c.hear_first.new.broker.entries) = subst (λ w. OnOk c.hear_first.result (IsLegal w c.hear_first.new.broker.entries)) c.in_ok-rounded.ensures.same_world c.hear_first.ensures.legal in
     let idle : IsWholeRound scripts ps old a b Idle = subst (λ r. IsWholeRound scripts ps old a b r) c.in-Idle.is c.in_ok-rounded.ensures.round in
     heard_next c.args.desk.now.broker.world scripts ps old (slots_of g.P.Starter.state c.hear_first.new.slots.items) a b (reverse c.hear_first.new.broker.entries) c.hear_first.result c.in_ok-rounded.ensures.stand idle c.hear_first.ensures.heard legal
+
+pub returns-in-Idle-clause-less : goal.returns-in-Idle-clause-less
+returns-in-Idle-clause-less g c =
+    let state = g.P.Starter.state in
+    let scripts = scripts_in c.args.cursors.now.items in
+    let ps = c.whole_round.new.cursors.items in
+    let a = reverse c.args.desk.now.broker.entries in
+    let b = reverse c.whole_round.new.desk.broker.entries in
+    let old = slots_of state c.whole_round.new.slots.items in
+    let before = turns_in c.args.cursors.now.items (slots_of state c.args.slots.now.items) a in
+    let idle : IsWholeRound scripts ps old a b Idle = subst (λ r. IsWholeRound scripts ps old a b r) c.in-Idle.is c.in_ok-rounded.ensures.round in
+    let less : TurnsLessen before (turns_in ps old b) Idle = subst (λ r. TurnsLessen before (turns_in ps old b) r) c.in-Idle.is c.in_ok-rounded.ensures.less in
+    heard_lessens_on before scripts ps old (slots_of state c.hear_first.new.slots.items) a b (reverse c.hear_first.new.broker.entries) c.hear_first.result idle less
+    (same_sizes state c.whole_round.new.slots.items c.hear_first.new.slots.items c.hear_first.ensures.same_size) c.hear_first.ensures.heard
 
 pub returns-in_default : goal.returns-in_default
 returns-in_default g c =
