@@ -32,7 +32,7 @@ use Rattle.wx_host_launch.specs.declared.turns.OutTurn.TheVariants as out
 use Rattle.wx_host_slot.specs.BrokerDesks.{desk_over}
 use Rattle.wx_host_slot.specs.Journals.{program_of}
 use Rattle.wx_host_slot.specs.Slots.{ChildState, SlotState, SlotView, slot_of, StandsRunning, StandsAs, waiting, running, over, Stands, turns_left, CameTo, IsServed, IsStarted, HasSpoken}
-use Rattle.wx_host_slot.specs.Turns.{HostTurn, rested}
+use Rattle.wx_host_slot.specs.Turns.{HostTurn}
 use Rattle.wx_host_slot.specs.declared.slot.Served.{Served}
 use Rattle.wx_host_slot.specs.declared.slot.Served.TheVariants.{Moved, Rested}
 use Rattle.wx_host_slot.proofs.JournalLemmas.{own}
