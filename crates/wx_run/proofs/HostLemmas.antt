@@ -1,33 +1,30 @@
--- The ends of hosts in a round.
-use Rattle.std.proofs.Common.{◌≡◌, ℕ, zero, suc, ◌+◌, ◌<◌, ◌≤◌, length, cond, arith, Bool, true, false, List, [], ◌∷◌, ◌++◌, refl, sym, ap, ◌∙◌, subst, inl, inr, append_assoc, append-nil, eqb}
-use Rattle.std.specs.Prelude.{◌||◌, ◌&&◌, reverse, option_to_list, nat_lt, IsTrue}
-use Rattle.std.proofs.lemmas.Bool.{cases_lt, eq-eqb}
-use Rattle.std.proofs.lemmas.Bool.Decides.{nat_tests}
-use Rattle.std.proofs.lemmas.List.{length-append, reverse-append}
+-- What rounds put before a past, and that an entry of a host changes nothing for endpoints.
+use Rattle.std.proofs.Common.{◌≡◌, ℕ, zero, suc, ◌+◌, ◌≤◌, ◌⊎◌, length, take, cond, arith, false, List, [], ◌∷◌, ◌++◌, Some, None, refl, sym, ap, ◌∙◌, subst, inl, inr, append_assoc}
+use Rattle.std.specs.declared.option.Option.{Option}
+use Rattle.std.specs.Prelude.{option_to_list}
+use Rattle.std.proofs.lemmas.List.{length-append}
 use Rattle.wx_id.specs.declared.numbers.ContextNo.{ContextNo}
 use Rattle.wx_id.specs.declared.numbers.HostNo.{HostNo}
 use Rattle.wx_external.specs.World.{WorldLists}
 use Rattle.wx_machine.specs.declared.entries.Who.TheVariants.{Host as ByHost}
-use Rattle.wx_machine.specs.declared.entries.Call.TheVariants.{HostEnded}
-use Rattle.wx_machine.specs.declared.entries.Reason.TheVariants.{StartFailed}
-use Rattle.wx_machine.specs.declared.entries.Answer.{Answer}
 use Rattle.wx_machine.specs.declared.entries.Entry.{Entry}
-use Rattle.wx_machine.specs.Contexts.{contexts, is_by, is_enter}
-use Rattle.wx_machine.specs.Hosts.{hosts, starts, started_by, is_by_host}
-use Rattle.wx_machine.specs.Texts.{has_ended, is_host_end}
-use Rattle.wx_machine.specs.Answers.{FollowsMachine, IsLegal}
+use Rattle.wx_machine.specs.Contexts.{contexts, is_by}
+use Rattle.wx_machine.specs.Hosts.{hosts, starts}
+use Rattle.wx_machine.specs.Answers.{FollowsMachine}
 use Rattle.wx_machine.specs.Each.{EachAfter}
-use Rattle.wx_broker.specs.State.{BrokerState}
-use Rattle.wx_broker.specs.Steps.{Appends}
+use Rattle.wx_host_launch.specs.Records.{Writing}
+use Rattle.wx_host_slot.specs.Slots.{SlotState}
 use Rattle.wx_script.specs.declared.script.Command.{Command}
 use Rattle.wx_script.specs.Places.{place_of, place_behind}
-use Rattle.wx_script.specs.Carries.{AskedOf, FollowsScript}
+use Rattle.wx_script.specs.Carries.{AskedOf}
 use Rattle.wx_script.specs.Ends.{entries_by, numbered}
 use Rattle.wx_endpoint.specs.Turn.{CursorState}
 use Rattle.wx_run.specs.Cursors.{cursor_of, cursors_from}
-use Rattle.wx_run.specs.Rounds.{Turn, Turns}
+use Rattle.wx_run.specs.Slots.{HostsStand}
+use Rattle.wx_run.specs.Rounds.{Turn, Turns, Round, of_all, of_first_host, Rounds, FirstTurns, of_endpoints, of_hosts}
 use Rattle.wx_run.specs.Round.{AllStand}
-use Rattle.wx_run.specs.Hosts.{host_numbered, HaveEndedBelow, HaveEnded, EndedOne, HostsEnd, HostTurns}
+use Rattle.wx_run.proofs.HostEntries.{IsHostEntry, AreOfHosts, GrowsByHosts, host_turns_stay, says_stays}
+use Rattle.wx_run.proofs.SlotLemmas.{hosts_stand_later}
 
 -- one past is the other with newer entries before it
 abbrev pub Grows : List Entry → List Entry → Type 0
@@ -46,69 +43,55 @@ pub Turns_grow : (ss : List (List Command)) (n : ℕ) (a b : List Entry) → Tur
 Turns_grow [] n a b same = ([], same)
 Turns_grow (s ∷ ss) n a b turns = grows_on a turns.0 b (Turn_grows s n a turns.0 turns.1) (Turns_grow ss (n + 1) turns.0 b turns.2)
 
-pub HostsEnd_grow : (count n : ℕ) (a b : List Entry) → HostsEnd count n a b → Grows a b
-HostsEnd_grow zero n a b same = ([], same)
-HostsEnd_grow (suc count) n a b ends = grows_on a ends.0 b (HostsEnd_grow count n a ends.0 ends.1) (ends.2.entry ∷ [], ends.2.made)
+pub by_hosts_grow : (a b : List Entry) → GrowsByHosts a b → Grows a b
+by_hosts_grow a b grows = (grows.newer, grows.grown)
 
--- ---- who has ended
+-- ---- rounds
 
-ended_newer : (newer past : List Entry) (h : HostNo) → has_ended past h ≡ true → has_ended (newer ++ past) h ≡ true
-ended_newer [] past h is = is
-ended_newer (e ∷ newer) past h is = ap (λ b. b || (is_host_end e.call && is_by_host e.who h)) (ended_newer newer past h is)
+Round_grows : (ss : List (List Command)) (a b : List Entry) → Round ss a b → Grows a b
+Round_grows ss a b round = elim round [
+  | of_all between turns host_turns moved ↦ grows_on a between b (Turns_grow ss 0 a between turns) (by_hosts_grow between b (host_turns_stay (length (hosts between)) between b host_turns))
+  | of_first_host idle none_ready h first turn ↦ by_hosts_grow a b (says_stays h a b turn)
+]
 
--- a host that has ended has ended behind further entries
-pub ended_grows : (a b : List Entry) → Grows a b → (n : ℕ) → HaveEndedBelow n a → HaveEndedBelow n b
-ended_grows a b grows n ended = λ h below. ap (λ j. has_ended j h) grows.1 ∙ ended_newer grows.0 a h (ended h below)
+FirstTurns_grow : (ss : List (List Command)) (a b : List Entry) → FirstTurns ss a b → Grows a b
+FirstTurns_grow ss a b turns = elim turns [
+  | of_endpoints count made ↦ Turns_grow (take count ss) 0 a b made
+  | of_hosts between count made within host_turns ↦ grows_on a between b (Turns_grow ss 0 a between made) (by_hosts_grow between b (host_turns_stay count between b host_turns))
+]
 
-or_true : (b : Bool) → (b || true) ≡ true
-or_true true = refl
-or_true false = refl
+pub Rounds_grow : (n : ℕ) (ss : List (List Command)) (a b : List Entry) → Rounds n ss a b → Grows a b
+Rounds_grow zero ss a b rounds = elim rounds [
+  | inl over ↦ ([], over.same)
+  | inr cut ↦ FirstTurns_grow ss a b cut.turns
+]
+Rounds_grow (suc n) ss a b rounds = grows_on a rounds.0 b (Round_grows ss a rounds.0 rounds.1) (Rounds_grow n ss rounds.0 b rounds.2)
 
--- the host whose end the entry is has ended
-ended_here : (past : List Entry) (e : Entry) (h : HostNo) → e.who ≡ ByHost h → e.call ≡ HostEnded StartFailed → has_ended (e ∷ past) h ≡ true
-ended_here past e h own called =
-    ap (λ x. has_ended past h || (is_host_end x && is_by_host e.who h)) called
-    ∙ ap (λ w. has_ended past h || is_by_host w h) own
-    ∙ ap (λ b. has_ended past h || b) (eq-eqb h.0 h.0 refl)
-    ∙ or_true (has_ended past h)
+longer : (e : Entry) (newer a b : List Entry) → b ≡ e ∷ newer ++ a → b ≡ a → ⊥
+longer e newer a b grown same =
+    let long : length b ≡ suc (length (newer ++ a)) = ap length grown in
+    let so : length b ≡ length a = ap length same in
+    let more = length-append newer a in
+    omega (arith, long, so, more)
 
-hosts_end : (count n : ℕ) (a b : List Entry) → HostsEnd count n a b → HaveEndedBelow n a → HaveEndedBelow (n + count) b
-hosts_end zero n a b same ended = λ h below. ap (λ j. has_ended j h) same ∙ ended h (omega (arith, below))
-hosts_end (suc count) n a b ends ended = λ h below.
-    let one = ends.2 in
-    elim (cases_lt h.0 (n + count)) [
-      | inl less ↦ ended_grows ends.0 b (one.entry ∷ [], one.made) (n + count) (hosts_end count n a ends.0 ends.1 ended) h less
-      | inr more ↦
-          let here : n + count ≡ h.0 = omega (arith, below, more) in
-          ap (λ j. has_ended j h) one.made ∙ ended_here ends.0 one.entry h (one.own ∙ ap (λ m. ByHost (host_numbered m)) here) one.called
-    ]
+-- whether entries were made
+pub same_or_more : (a b : List Entry) → Grows a b → (b ≡ a) ⊎ (b ≡ a → ⊥)
+same_or_more a b ([], same) = inl same
+same_or_more a b (e ∷ newer, grown) = inr (longer e newer a b grown)
+
+-- ---- hosts that were called
+
+one_or_none : {A : Type 0} (o : Option A) → length (option_to_list o) ≤ 1
+one_or_none None = omega arith
+one_or_none (Some x) = omega arith
+
+-- an entry calls one host at most
+pub one_host_more : (past : List Entry) (e : Entry) → length (hosts (e ∷ past)) ≤ length (hosts past) + 1
+one_host_more past e =
+    let more = length-append (hosts past) (option_to_list (starts past e)) in
+    omega (arith, more, one_or_none (starts past e))
 
 -- ---- an entry of a host changes nothing for contexts
-
-none_started : (past : List Entry) (e : Entry) (h : HostNo) → e.who ≡ ByHost h → hosts (e ∷ past) ≡ hosts past
-none_started past e h own = ap (λ w. hosts past ++ option_to_list (started_by past w e.call e.answer)) own ∙ append-nil (hosts past)
-
-pub hosts_kept : (count n : ℕ) (a b : List Entry) → HostsEnd count n a b → hosts b ≡ hosts a
-hosts_kept zero n a b same = ap hosts same
-hosts_kept (suc count) n a b ends = ap hosts ends.2.made ∙ none_started ends.0 ends.2.entry (host_numbered (n + count)) ends.2.own ∙ hosts_kept count n a ends.0 ends.1
-
-hosts_newer : (newer past : List Entry) → length (hosts past) ≤ length (hosts (newer ++ past))
-hosts_newer [] past = omega arith
-hosts_newer (e ∷ newer) past =
-    let more = length-append (hosts (newer ++ past)) (option_to_list (starts (newer ++ past) e)) in
-    omega (arith, more, hosts_newer newer past)
-
--- no fewer hosts were started behind further entries
-pub hosts_grow : (a b : List Entry) → Grows a b → length (hosts a) ≤ length (hosts b)
-hosts_grow a b grows =
-    let same = ap (λ j. length (hosts j)) grows.1 in
-    omega (arith, same, hosts_newer grows.0 a)
-
--- behind the turns of hosts all have ended
-pub all_ended : (n : ℕ) (a b : List Entry) → HostTurns n a b → HaveEndedBelow n a → HaveEnded b
-all_ended n a b turns ended =
-    let so : length (hosts b) ≡ n + turns.count = ap length (hosts_kept turns.count n a b turns.ends) ∙ sym turns.all in
-    subst (λ m. HaveEndedBelow m b) (sym so) (hosts_end turns.count n a b turns.ends ended)
 
 entries_by-host : (c : ContextNo) (past : List Entry) (e : Entry) (h : HostNo) → e.who ≡ ByHost h → entries_by c (e ∷ past) ≡ entries_by c past
 entries_by-host c past e h own = ap (λ w. cond (is_by w c) 1 0 + entries_by c past) own ∙ omega arith
@@ -126,41 +109,37 @@ cursors_from-host (s ∷ ss) n past e h own =
     ap (λ p. p ∷ cursors_from ss (n + 1) (e ∷ past)) (cursor_of-host s (numbered n) past e h own)
     ∙ ap (λ ps. cursor_of s (numbered n) past ∷ ps) (cursors_from-host ss (n + 1) past e h own)
 
-host_stands : (world : WorldLists) (scripts : List (List Command)) (ps : List CursorState) (past : List Entry) (e : Entry) (h : HostNo) → e.who ≡ ByHost h → e.call ≡ HostEnded StartFailed
-    → AllStand world scripts ps past → FollowsMachine world past e → AllStand world scripts ps (e ∷ past)
-host_stands world scripts ps past e h own called stand follows =
+host_stands : (world : WorldLists) (scripts : List (List Command)) (ps : List CursorState) (past : List Entry) (e : Entry) (h : HostNo) → IsHostEntry h e → AllStand world scripts ps past → FollowsMachine world past e → AllStand world scripts ps (e ∷ past)
+host_stands world scripts ps past e h host stand follows =
     let no_script : AskedOf scripts past (ByHost h) e = tt in
-    let counted : contexts (e ∷ past) ≡ contexts past = ap (λ x. cond (is_enter x) 1 0 + contexts past) called ∙ omega arith in
+    let counted : contexts (e ∷ past) ≡ contexts past = ap (λ b. cond b 1 0 + contexts past) host.no_enter ∙ omega arith in
     record {
       legal = (stand.legal, follows);
-      behind = stand.behind ∙ sym (cursors_from-host scripts 0 past e h own);
-      follows = (stand.follows, subst (λ w. AskedOf scripts past w e) (sym own) no_script);
+      behind = stand.behind ∙ sym (cursors_from-host scripts 0 past e h host.own);
+      follows = (stand.follows, subst (λ w. AskedOf scripts past w e) (sym host.own) no_script);
       all_in = (let all = stand.all_in in omega (arith, all, counted));
-      within_limit = λ c. let within = stand.within_limit c in let same = entries_by-host c past e h own in omega (arith, within, same);
+      within_limit = λ c. let within = stand.within_limit c in let same = entries_by-host c past e h host.own in omega (arith, within, same);
     }
 
--- endpoints stand as they stood where hosts ended
-pub hosts_stand : (world : WorldLists) (scripts : List (List Command)) (ps : List CursorState) (count n : ℕ) (a b : List Entry) → AllStand world scripts ps a → HostsEnd count n a b → EachAfter (FollowsMachine world) b → AllStand world scripts ps b
-hosts_stand world scripts ps zero n a b stand same legal = subst (λ j. AllStand world scripts ps j) (sym same) stand
-hosts_stand world scripts ps (suc count) n a b stand ends legal =
-    let one = ends.2 in
-    let both : EachAfter (FollowsMachine world) (one.entry ∷ ends.0) = subst (λ j. EachAfter (FollowsMachine world) j) one.made legal in
-    let before = hosts_stand world scripts ps count n a ends.0 stand ends.1 both.0 in
-    subst (λ j. AllStand world scripts ps j) (sym one.made) (host_stands world scripts ps ends.0 one.entry (host_numbered (n + count)) one.own one.called before both.1)
+newer_stand : (world : WorldLists) (scripts : List (List Command)) (ps : List CursorState) (newer past : List Entry) → AllStand world scripts ps past → AreOfHosts newer → EachAfter (FollowsMachine world) (newer ++ past) → AllStand world scripts ps (newer ++ past)
+newer_stand world scripts ps [] past stand own legal = stand
+newer_stand world scripts ps (e ∷ newer) past stand own legal = host_stands world scripts ps (newer ++ past) e own.0.0 own.0.1 (newer_stand world scripts ps newer past stand own.1 legal.0) legal.1
 
--- ---- what the broker's `host_ended` leaves
+-- endpoints stand as they stood where hosts alone made entries
+pub endpoints_stand : (world : WorldLists) (scripts : List (List Command)) (ps : List CursorState) (a b : List Entry) → AllStand world scripts ps a → GrowsByHosts a b → EachAfter (FollowsMachine world) b → AllStand world scripts ps b
+endpoints_stand world scripts ps a b stand grows legal =
+    subst (λ j. AllStand world scripts ps j) (sym grows.grown)
+    (newer_stand world scripts ps grows.newer a stand grows.own (subst (λ j. EachAfter (FollowsMachine world) j) grows.grown legal))
 
-pub record HostLeaves (old new : BrokerState) (h : HostNo) : Type 0 where
-  pub legal : IsLegal old.world new.entries
-  pub ended : EndedOne h (reverse old.entries) (reverse new.entries)
+-- ---- hosts behind the turns of endpoints
 
-pub host_leaves : (old new : BrokerState) (h : HostNo) (a : Answer) → IsLegal old.world old.entries → h.0 < length (hosts (reverse old.entries)) → Appends old new (ByHost h) (HostEnded StartFailed) a → HostLeaves old new h
-host_leaves old new h a legal started appends =
-    let e : Entry = record { who = ByHost h; call = HostEnded StartFailed; answer = a } in
-    let made : reverse new.entries ≡ e ∷ reverse old.entries = ap reverse appends.grown ∙ reverse-append old.entries (e ∷ []) in
-    let may : IsTrue (nat_lt h.0 (length (hosts (reverse old.entries)))) = grind (arith, nat_tests) in
-    let follows : FollowsMachine old.world (reverse old.entries) e = record { may = may; answered = appends.answered } in
-    record {
-      legal = subst (λ j. EachAfter (FollowsMachine old.world) j) (sym made) (legal, follows);
-      ended = record { entry = e; own = refl; called = refl; made = made };
-    }
+Turn_keeps : (writing : Option Writing) (world : WorldLists) (s : List Command) (n : ℕ) (a b : List Entry) (slots : List SlotState) → Turn s (numbered n) a b → HostsStand writing world a slots → HostsStand writing world b slots
+Turn_keeps writing world s n a b slots turn stand = elim turn [
+  | inl one ↦ subst (λ j. HostsStand writing world j slots) (sym one.made) (hosts_stand_later writing world a one.entry (numbered n) slots one.own stand)
+  | inr none ↦ subst (λ j. HostsStand writing world j slots) (sym none.same) stand
+]
+
+-- the slots stand as they stood where endpoints made their turns
+pub Turns_keep : (writing : Option Writing) (world : WorldLists) (ss : List (List Command)) (n : ℕ) (a b : List Entry) (slots : List SlotState) → Turns ss n a b → HostsStand writing world a slots → HostsStand writing world b slots
+Turns_keep writing world [] n a b slots same stand = subst (λ j. HostsStand writing world j slots) (sym same) stand
+Turns_keep writing world (s ∷ ss) n a b slots turns stand = Turns_keep writing world ss (n + 1) turns.0 b slots turns.2 (Turn_keeps writing world s n a turns.0 slots turns.1 stand)

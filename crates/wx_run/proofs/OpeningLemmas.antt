@@ -1,5 +1,5 @@
 -- One more endpoint of the opening.
-use Rattle.std.proofs.Common.{◌≡◌, ◌≢◌, ℕ, ◌+◌, ◌<◌, length, take, cond, arith, Bool, true, false, List, [], ◌∷◌, ◌++◌, Some, None, refl, sym, ap, ◌∙◌, subst, append_assoc, append-nil}
+use Rattle.std.proofs.Common.{◌≡◌, ◌≢◌, ℕ, ◌+◌, ◌<◌, ◌≤◌, length, take, cond, arith, Bool, true, false, List, [], ◌∷◌, ◌++◌, Some, None, refl, sym, ap, ◌∙◌, subst, append_assoc, append-nil}
 use Rattle.std.specs.declared.option.Option.{Option}
 use Rattle.std.specs.Prelude.{slice_get, reverse, ◌&&◌, ◌||◌, not, option_to_list}
 use Rattle.std.specs.Option.{option_map, option_or}
@@ -8,6 +8,7 @@ use Rattle.std.proofs.lemmas.List.{reverse-append, length-map}
 use Rattle.std.proofs.lemmas.Option.{slice_get-map}
 use Rattle.std.proofs.Math.Seq.{take-length}
 use Rattle.wx_id.specs.declared.numbers.ContextNo.{ContextNo}
+use Rattle.wx_id.specs.declared.numbers.HostNo.{HostNo}
 use Rattle.wx_external.specs.World.{WorldLists}
 use Rattle.wx_context.specs.declared.contexts.Context.{Context}
 use Rattle.wx_context.specs.declared.contexts.Listens.{Listens}
@@ -18,16 +19,18 @@ use Rattle.wx_machine.specs.declared.entries.Entry.{Entry}
 use Rattle.wx_machine.specs.Contexts.{contexts, is_by, is_there, is_live, has_left, context_of, same_context, is_leave}
 use Rattle.wx_machine.specs.Answers.{IsLegal, FollowsMachine, answer_after}
 use Rattle.wx_machine.specs.Each.{EachAfter}
-use Rattle.wx_machine.specs.Hosts.{hosts}
-use Rattle.wx_machine.specs.Texts.{has_ended}
+use Rattle.wx_machine.specs.Hosts.{hosts, is_by_host}
 use Rattle.wx_broker.specs.State.{BrokerState}
 use Rattle.wx_broker.specs.Steps.{Appends}
 use Rattle.wx_laws.proofs.Keeping.{legal_keeps_laws}
+use Rattle.wx_host_launch.specs.Records.{Writing}
+use Rattle.wx_host_slot.specs.Journals.{entries_of}
+use Rattle.wx_host_slot.specs.Slots.{host_limit}
 use Rattle.wx_script.specs.declared.script.Act.TheVariants as act
 use Rattle.wx_script.specs.declared.script.Command.{Command}
 use Rattle.wx_script.specs.declared.script.Command.TheVariants.{Plain, Repeat}
 use Rattle.wx_script.specs.declared.scene.SceneEndpoint.{SceneEndpoint}
-use Rattle.wx_script.specs.SceneValue.{SceneValue}
+use Rattle.wx_script.specs.SceneValue.{SceneValue, scripts_of}
 use Rattle.wx_script.specs.Places.{outside, place_of, place_behind, at_start, next_at, next_of, asks}
 use Rattle.wx_script.specs.Carries.{MayCome}
 use Rattle.wx_script.specs.Ends.{numbered, entries_by, entry_limit, is_idle}
@@ -38,10 +41,11 @@ use Rattle.wx_run.specs.declared.outcome.RunEnd.{RunEnd}
 use Rattle.wx_run.specs.Opening.{entered, listened, first_listen, first_entries, opening_from, opening}
 use Rattle.wx_run.specs.Opened.{scripts_at, AreBelow, AreIn, OpenedSoFar, IsOpenedBy, IsOpened}
 use Rattle.wx_run.specs.Cursors.{cursor_of, cursor_at_start, cursors_from, AreBehind, scripts_in}
-use Rattle.wx_run.specs.Rounds.{Rounds}
-use Rattle.wx_run.specs.Round.{AllStand, AreRounds, Follows, IsWithinLimit}
+use Rattle.wx_run.specs.Round.{AllStand, Follows, IsWithinLimit}
+use Rattle.wx_run.specs.Running.{AreRounds}
 use Rattle.wx_run.specs.Run.{IsRunOf}
-use Rattle.wx_run.specs.Hosts.{HaveEnded}
+use Rattle.wx_run.specs.Hosts.{AreHostsWithin}
+use Rattle.wx_run.specs.Slots.{HostsStand}
 use Rattle.wx_run.specs.Step.{IsReady, Moves, IsStep}
 use Rattle.wx_run.proofs.ListLemmas.{take-snoc, length-take-at}
 use Rattle.wx_run.proofs.CursorLemmas.{place_of-own, place_of-other, entries_by-own, entries_by-other, cursors_from-later, cursors_from-append, scripts_in-cursors_from}
@@ -352,25 +356,40 @@ opened_stand world endpoints ps past so =
       within_limit = so.within_limit;
     })
 
--- no host was started yet
-pub opened_hosts : (world : WorldLists) (endpoints : List SceneEndpoint) (ps : List CursorState) (past : List Entry) → OpenedSoFar world endpoints (length endpoints) ps past → HaveEnded past
-opened_hosts world endpoints ps past so = λ h below. let none : length (hosts past) ≡ 0 = ap length so.no_hosts in absurd (omega (arith, none, below))
+none_of_hosts : (n : ℕ) (past : List Entry) (h : HostNo) → AreBelow n past → entries_of h past ≡ 0
+none_of_hosts n [] h below = refl
+none_of_hosts n (e ∷ past) h below =
+    let one = ap (λ w. cond (is_by_host w h) 1 0 + entries_of h past) below.1.own in
+    omega (arith, one, none_of_hosts n past h below.0)
 
-pub run_of : (world other : WorldLists) (scene : SceneValue) (ps : List CursorState) (opened : List Entry) (journal : List Entry) (end : RunEnd) → IsLegal world journal
-    → OpenedSoFar other scene.endpoints (length scene.endpoints) ps opened → AreRounds (scripts_in ps) opened (reverse journal) end → IsRunOf world scene journal end
-run_of world other scene ps opened journal end legal so came =
-    let endpoints = scene.endpoints in
-    let scripts = scripts_at endpoints in
-    let rounds : AreRounds scripts opened (reverse journal) end = subst (λ ss. AreRounds ss opened (reverse journal) end) (opened_scripts other endpoints ps opened so) came in
-    let begins : opened ≡ reverse (opening scene) = so.begins ∙ ap (λ es. reverse (opening_from 0 es)) (take-length endpoints) in
-    let in_rounds : Rounds rounds.count scripts (reverse (opening scene)) (reverse journal) = subst (λ j. Rounds rounds.count scripts j (reverse journal)) begins rounds.rounds in
+-- no host was called yet
+pub opened_hosts : (writing : Option Writing) (world : WorldLists) (endpoints : List SceneEndpoint) (ps : List CursorState) (past : List Entry) → OpenedSoFar world endpoints (length endpoints) ps past → HostsStand writing world past []
+opened_hosts writing world endpoints ps past so =
+    let none = λ (h : HostNo). none_of_hosts (length endpoints) past h so.all_in.below in
     record {
-      legal = legal;
-      laws = legal_keeps_laws world journal legal;
-      carries_out = rounds.follows;
-      begins = begins_with rounds.count scripts (opening scene) journal in_rounds;
-      count = rounds.count;
-      in_rounds = in_rounds;
-      within_limit = rounds.within_limit;
-      ended = rounds.ended;
+      stand = tt;
+      below = omega arith;
+      none_beyond = λ h beyond. none h;
+      within_limit = λ h. subst (λ n. n ≤ host_limit + 2) (sym (none h)) (omega arith);
     }
+
+pub opened_rounds : (world : WorldLists) (scene : SceneValue) (ps : List CursorState) (opened after : List Entry) (end : RunEnd) → OpenedSoFar world scene.endpoints (length scene.endpoints) ps opened → AreRounds (scripts_in ps) opened after end
+    → AreRounds (scripts_of scene) (reverse (opening scene)) after end
+opened_rounds world scene ps opened after end so came =
+    let endpoints = scene.endpoints in
+    let begins : opened ≡ reverse (opening scene) = so.begins ∙ ap (λ es. reverse (opening_from 0 es)) (take-length endpoints) in
+    subst (λ j. AreRounds (scripts_of scene) j after end) begins
+    (subst (λ ss. AreRounds ss opened after end) (opened_scripts world endpoints ps opened so) came)
+
+pub run_of : (world : WorldLists) (scene : SceneValue) (journal : List Entry) (end : RunEnd) → IsLegal world journal → AreHostsWithin (reverse journal) → AreRounds (scripts_of scene) (reverse (opening scene)) (reverse journal) end → IsRunOf world scene journal end
+run_of world scene journal end legal hosts_within rounds = record {
+  legal = legal;
+  laws = legal_keeps_laws world journal legal;
+  carries_out = rounds.follows;
+  begins = begins_with rounds.count (scripts_of scene) (opening scene) journal rounds.rounds;
+  count = rounds.count;
+  in_rounds = rounds.rounds;
+  within_limit = rounds.within_limit;
+  hosts_within_limit = hosts_within;
+  ended = rounds.ended;
+}

@@ -8,20 +8,23 @@ use Rattle.wx_id.specs.declared.numbers.ContextNo.{ContextNo}
 use Rattle.wx_external.specs.World.{WorldLists}
 use Rattle.wx_machine.specs.declared.entries.Who.TheVariants.{Context as ByContext}
 use Rattle.wx_machine.specs.declared.entries.Entry.{Entry}
+use Rattle.wx_machine.specs.Hosts.{hosts}
 use Rattle.wx_script.specs.declared.script.Command.{Command}
 use Rattle.wx_script.specs.Places.{next_of}
 use Rattle.wx_script.specs.Carries.{FollowsScript, AskedOf, MayCome}
-use Rattle.wx_script.specs.Ends.{numbered, is_idle, entries_by, entry_limit}
+use Rattle.wx_script.specs.Ends.{numbered, is_idle, AreIdle, entries_by, entry_limit}
 use Rattle.wx_endpoint.specs.History.{seen_by, CarriesOn}
 use Rattle.wx_endpoint.specs.Turn.{CursorState}
-use Rattle.wx_run.specs.declared.rounds.Rounded.TheVariants.{Spent}
+use Rattle.wx_script.specs.declared.scene.SpentWho.TheVariants.{Endpoint}
+use Rattle.wx_run.specs.declared.rounds.Rounded.TheVariants.{Idle, Spent}
 use Rattle.wx_run.specs.Cursors.{cursor_of, cursors_from, AreBehind, is_spent_at, first_spent_in, work_in, scripts_in}
-use Rattle.wx_run.specs.Rounds.{Turn, Turns, IsOver}
+use Rattle.wx_run.specs.Rounds.{Turn, Turns}
 use Rattle.wx_run.specs.Step.{IsReady, Moves, Rests, IsStep}
-use Rattle.wx_run.specs.Round.{AllStand, IsWithinLimit, AreIdleBelow, IdleUnlessMoved, RoundSoFar, IsRound, Lessens}
+use Rattle.wx_run.specs.Round.{AllStand, IsWithinLimit, AreIdleBelow, IdleUnlessMoved, RoundSoFar, IsRound, Falls, Lessens}
 use Rattle.wx_run.proofs.ListLemmas.{take-snoc, length-take-at, set_same, element_at}
 use Rattle.wx_run.proofs.SeenLemmas.{carries_on}
 use Rattle.wx_run.proofs.CursorLemmas.{cursors_from-own, slice_get-cursors_from, length-cursors_from, scripts_in-cursors_from, entries_by-own, entries_by-other}
+use Rattle.wx_run.proofs.HostLemmas.{one_host_more}
 use Rattle.wx_run.proofs.EndLemmas.{unspent_at, unspent-set, spent-set}
 
 -- the endpoint of number i, its cursor, and the cursors behind its turn
@@ -139,7 +142,7 @@ round_moves world scripts i ps qs p q a b c moved so at moves is = record {
 -- the turn of an endpoint that makes an entry, behind which it is spent
 round_spends : (world : WorldLists) (scripts : List (List Command)) (i : ℕ) (ps qs : List CursorState) (p q : CursorState) (a b c : List Entry) (moved : Bool)
     → RoundSoFar world scripts i ps a b moved → At scripts i ps qs p q → Moves world (numbered i) p q b c → is_spent_at q ≡ true
-    → AllStand world scripts qs c × IsRound scripts qs a c (Spent i)
+    → AllStand world scripts qs c × IsRound scripts qs a c (Spent (Endpoint i))
 round_spends world scripts i ps qs p q a b c moved so at moves is = (
   moved_stand world scripts i ps qs p q b c so.stand at moves,
   (
@@ -198,18 +201,39 @@ turn_made world scripts i ps qs p q a b c true false so at step is = round_rests
 turn_made world scripts i ps qs p q a b c false false so at step is = round_rests world scripts i ps qs p q a b c false so at step
 
 pub turn_spends : (world : WorldLists) (scripts : List (List Command)) (i : ℕ) (ps qs : List CursorState) (p q : CursorState) (a b c : List Entry) (moved made : Bool)
-    → RoundSoFar world scripts i ps a b moved → At scripts i ps qs p q → IsStep world (numbered i) p q b c made → is_spent_at q ≡ true → AllStand world scripts qs c × IsRound scripts qs a c (Spent i)
+    → RoundSoFar world scripts i ps a b moved → At scripts i ps qs p q → IsStep world (numbered i) p q b c made → is_spent_at q ≡ true → AllStand world scripts qs c × IsRound scripts qs a c (Spent (Endpoint i))
 turn_spends world scripts i ps qs p q a b c moved true so at step is = round_spends world scripts i ps qs p q a b c moved so at step is
 turn_spends world scripts i ps qs p q a b c moved false so at step is =
     let never : true ≡ false = sym is ∙ ap is_spent_at step.same_cursor ∙ unspent_at ps 0 i p so.unspent at.stands in
     absurd cc
 
-pub turn_lessens : (world : WorldLists) (scripts : List (List Command)) (i : ℕ) (ps qs : List CursorState) (p q : CursorState) (a b c : List Entry) (moved made : Bool) (old : ℕ)
-    → RoundSoFar world scripts i ps a b moved → At scripts i ps qs p q → IsStep world (numbered i) p q b c made → Lessens moved old (work_in ps) → Lessens (moved || made) old (work_in qs)
-turn_lessens world scripts i ps qs p q a b c true true old so at step less = let e = moves_less world scripts i ps qs p q b c so.stand at step in omega (arith, e, less)
-turn_lessens world scripts i ps qs p q a b c false true old so at step less = let e = moves_less world scripts i ps qs p q b c so.stand at step in omega (arith, e, less)
-turn_lessens world scripts i ps qs p q a b c true false old so at step less = let e : work_in qs ≡ work_in ps = ap work_in (same_cursors scripts i ps qs p q at step.same_cursor) in omega (arith, e, less)
-turn_lessens world scripts i ps qs p q a b c false false old so at step less = let e : work_in qs ≡ work_in ps = ap work_in (same_cursors scripts i ps qs p q at step.same_cursor) in omega (arith, e, less)
+turn_falls : (moved : Bool) (old before now : ℕ) → Falls moved old before → now < before → Falls true old now
+turn_falls true old before now fell less = omega arith
+turn_falls false old before now fell less = omega arith
+
+-- fewer entries may be made behind one, which calls one host at most
+moves_lessen : (world : WorldLists) (scripts : List (List Command)) (i : ℕ) (rs ps qs : List CursorState) (p q : CursorState) (a b c : List Entry) (moved : Bool)
+    → AllStand world scripts ps b → At scripts i ps qs p q → Moves world (numbered i) p q b c → Lessens moved rs ps a b → Lessens true rs qs a c
+moves_lessen world scripts i rs ps qs p q a b c moved stand at moves less =
+    let fewer = moves_less world scripts i ps qs p q b c stand at moves in
+    let called : length (hosts c) ≤ length (hosts b) + 1 = subst (λ j. length (hosts j) ≤ length (hosts b) + 1) (sym moves.made) (one_host_more b moves.entry) in
+    record {
+      fewer = turn_falls moved (work_in rs) (work_in ps) (work_in qs) less.fewer fewer;
+      one_host_each = (let before = less.one_host_each in omega (arith, before, fewer, called));
+    }
+
+rests_lessen : (scripts : List (List Command)) (i : ℕ) (rs ps qs : List CursorState) (p q : CursorState) (a b c : List Entry) (moved : Bool)
+    → At scripts i ps qs p q → Rests (numbered i) p q b c → Lessens moved rs ps a b → Lessens moved rs qs a c
+rests_lessen scripts i rs ps qs p q a b c moved at rests less =
+    subst (λ c. Lessens moved rs qs a c) (sym rests.same)
+    (subst (λ qs. Lessens moved rs qs a b) (sym (same_cursors scripts i ps qs p q at rests.same_cursor)) less)
+
+pub turn_lessens : (world : WorldLists) (scripts : List (List Command)) (i : ℕ) (rs ps qs : List CursorState) (p q : CursorState) (a b c : List Entry) (moved made : Bool)
+    → AllStand world scripts ps b → At scripts i ps qs p q → IsStep world (numbered i) p q b c made → Lessens moved rs ps a b → Lessens (moved || made) rs qs a c
+turn_lessens world scripts i rs ps qs p q a b c true true stand at step less = moves_lessen world scripts i rs ps qs p q a b c true stand at step less
+turn_lessens world scripts i rs ps qs p q a b c false true stand at step less = moves_lessen world scripts i rs ps qs p q a b c false stand at step less
+turn_lessens world scripts i rs ps qs p q a b c true false stand at step less = rests_lessen scripts i rs ps qs p q a b c true at step less
+turn_lessens world scripts i rs ps qs p q a b c false false stand at step less = rests_lessen scripts i rs ps qs p q a b c false at step less
 
 pub round_begins : (world : WorldLists) (scripts : List (List Command)) (ps : List CursorState) (a : List Entry) → AllStand world scripts ps a → first_spent_in 0 ps ≡ None → RoundSoFar world scripts 0 ps a a false
 round_begins world scripts ps a stand unspent = record { stand = stand; unspent = unspent; turns = refl; idle = record { same = refl; idle = λ c s below is. absurd (omega arith) } }
@@ -219,12 +243,8 @@ round_begins world scripts ps a stand unspent = record { stand = stand; unspent 
 pub all_turns : (world : WorldLists) (scripts : List (List Command)) (i : ℕ) (ps : List CursorState) (a b : List Entry) (moved : Bool) → i ≡ length scripts → RoundSoFar world scripts i ps a b moved → Turns scripts 0 a b
 all_turns world scripts i ps a b moved all so = subst (λ t. Turns t 0 a b) (ap (λ i. take i scripts) all ∙ take-length scripts) so.turns
 
-pub all_idle : (world : WorldLists) (scripts : List (List Command)) (i : ℕ) (ps : List CursorState) (a b : List Entry) → i ≡ length scripts → RoundSoFar world scripts i ps a b false → IsOver scripts a b
+pub all_idle : (world : WorldLists) (scripts : List (List Command)) (i : ℕ) (ps : List CursorState) (a b : List Entry) → i ≡ length scripts → RoundSoFar world scripts i ps a b false → IsRound scripts ps a b Idle
 all_idle world scripts i ps a b all so =
     let idle = so.idle in
-    record {
-      idle = λ c s is.
-          let below : c < length scripts = slice_get_within scripts c s is in
-          subst (λ j. is_idle j (numbered c) (next_of s (numbered c) j) ≡ true) (sym idle.same) (idle.idle c s (omega arith) is);
-      same = idle.same;
-    }
+    let all_are : AreIdle scripts a = λ c s is. let below : c < length scripts = slice_get_within scripts c s is in idle.idle c s (omega arith) is in
+    (all_turns world scripts i ps a b false all so, so.unspent, all_are, idle.same)

@@ -1,87 +1,381 @@
 -- One more round of a run.
-use Rattle.std.proofs.Common.{◌≡◌, ℕ, zero, suc, ◌+◌, length, take, cond, true, false, List, [], ◌∷◌, ◌++◌, Some, None, refl, sym, ap, ◌∙◌, subst, inl, inr}
-use Rattle.std.specs.Prelude.{reverse, is_some}
-use Rattle.std.proofs.lemmas.List.{reverse-append, reverse-reverse}
+use Rattle.std.proofs.Common.{◌≡◌, ℕ, zero, suc, ◌+◌, ◌-◌, ◌*◌, ◌<◌, ◌≤◌, ◌⊎◌, length, take, cond, arith, true, false, List, [], ◌∷◌, ◌++◌, map, Some, None, refl, sym, ap, ◌∙◌, subst, inl, inr}
+use Rattle.std.specs.declared.option.Option.{Option}
+use Rattle.std.specs.Prelude.{reverse, Result, Ok, Err, IfOk, OnOk}
+use Rattle.wx_id.specs.declared.texts.NoMemory.{NoMemory}
+use Rattle.std.proofs.lemmas.List.{length-map, reverse-append, reverse-reverse}
+use Rattle.wx_id.specs.declared.numbers.HostNo.{HostNo}
 use Rattle.wx_external.specs.World.{WorldLists}
 use Rattle.wx_machine.specs.declared.entries.Entry.{Entry}
-use Rattle.wx_script.specs.declared.script.Command.{Command}
-use Rattle.wx_script.specs.Ends.{spent_of, numbered}
-use Rattle.wx_endpoint.specs.Turn.{CursorState}
-use Rattle.wx_run.specs.declared.rounds.Rounded.TheVariants.{Moved, Idle, Spent}
-use Rattle.wx_run.specs.declared.outcome.RunEnd.TheVariants as end
-use Rattle.wx_script.specs.declared.scene.SpentWho.TheVariants.{Endpoint}
-use Rattle.wx_run.specs.Cursors.{first_spent_in, all_left}
-use Rattle.wx_run.specs.Rounds.{Turns, Rounds}
-use Rattle.wx_run.specs.Run.{BeginsWith, EndsBy}
-use Rattle.wx_run.specs.Round.{AllStand, IsRound, RoundsSoFar, AreRounds}
-use Rattle.wx_run.proofs.EndLemmas.{spent_behind, done_behind, left_behind}
-use Rattle.wx_run.proofs.HostLemmas.{Grows, grows_on, Turns_grow, HostsEnd_grow, ended_grows, all_ended, hosts_stand}
-use Rattle.wx_run.specs.Hosts.{HaveEnded, HostTurns}
 use Rattle.wx_machine.specs.Hosts.{hosts}
 use Rattle.wx_machine.specs.Answers.{FollowsMachine}
 use Rattle.wx_machine.specs.Each.{EachAfter}
+use Rattle.wx_host_launch.specs.Records.{Writing, StarterState}
+use Rattle.wx_host_slot.specs.Slots.{SlotState, SlotView, slot_of, slots_of, host_limit, closing_record}
+use Rattle.wx_host_slot.specs.Turns.{HostTurn, rested, SaysOrEnds}
+use Rattle.wx_script.specs.declared.script.Command.{Command}
+use Rattle.wx_script.specs.declared.scene.SpentWho.{SpentWho}
+use Rattle.wx_script.specs.declared.scene.SpentWho.TheVariants.{Endpoint, Host}
+use Rattle.wx_script.specs.Ends.{spent_of, AreIdle}
+use Rattle.wx_endpoint.specs.Turn.{CursorState}
+use Rattle.wx_run.specs.declared.rounds.Rounded.{Rounded}
+use Rattle.wx_run.specs.declared.rounds.Rounded.TheVariants.{Moved, Idle, Spent}
+use Rattle.wx_run.specs.declared.outcome.RunEnd.{RunEnd}
+use Rattle.wx_run.specs.declared.outcome.RunEnd.TheVariants as end
+use Rattle.wx_run.specs.Cursors.{first_spent_in, all_left, work_in}
+use Rattle.wx_run.specs.Hosts.{HaveEnded, NoneReady, HostTurns, host_numbered, spent_host, IsFirstUnended, HaveRecords}
+use Rattle.wx_run.specs.Slots.{HostsStand, first_spent_slot, all_turns_left, keeping}
+use Rattle.wx_run.specs.Serving.{HostsServed, FirstHeard}
+use Rattle.wx_run.specs.Rounds.{Turns, Round, of_all, of_first_host, Rounds, FirstTurns, of_endpoints, of_hosts, IsOver, IsCutShort, IsSpent}
+use Rattle.wx_run.specs.Round.{AllStand, IsRound, Lessens, RoundLessens}
+use Rattle.wx_run.specs.Run.{BeginsWith, EndsBy}
+use Rattle.wx_run.specs.Running.{AreReady, AllTurns, IsWholeRound, RoundOrNone, IsNextRound, turns_in, TurnsLessen, KeepsPlaces, AreRounds, RoundsSoFar}
+use Rattle.wx_run.proofs.EndLemmas.{spent_behind, done_behind, left_behind}
+use Rattle.wx_run.proofs.SlotLemmas.{records_meet}
+use Rattle.wx_run.proofs.HostEntries.{host_turns_stay, says_stays, hosts_stay}
+use Rattle.wx_run.proofs.HostLemmas.{Grows, grows_on, Turns_grow, by_hosts_grow, endpoints_stand, Turns_keep, Rounds_grow, same_or_more}
 
-pub rounds_begin : (world : WorldLists) (scripts : List (List Command)) (ps : List CursorState) (a : List Entry) → AllStand world scripts ps a → HaveEnded a → first_spent_in 0 ps ≡ None → RoundsSoFar world scripts ps a a
-rounds_begin world scripts ps a stand ended unspent = record { stand = stand; unspent = unspent; hosts_ended = ended; rounds = λ m last r. (m, r) }
+-- ---- a whole round
 
-pub rounds_go_on : (world : WorldLists) (scripts : List (List Command)) (ps qs : List CursorState) (a b c d : List Entry) → RoundsSoFar world scripts ps a b → AllStand world scripts qs c → IsRound scripts qs b c Moved
-    → HostTurns (length (hosts b)) c d → EachAfter (FollowsMachine world) d → RoundsSoFar world scripts qs a d
-rounds_go_on world scripts ps qs a b c d so stand round turns legal = record {
-  stand = hosts_stand world scripts qs turns.count (length (hosts b)) c d stand turns.ends legal;
-  unspent = round.1;
-  hosts_ended = all_ended (length (hosts b)) c d turns (ended_grows b c (Turns_grow scripts 0 b c round.0) (length (hosts b)) so.hosts_ended);
-  rounds = λ m last r. so.rounds (suc m) last (d, record { between = c; turns = round.0; host_turns = turns }, r);
+-- where no host is ready, all make a turn in which they do nothing
+none_turn : (n : ℕ) (past : List Entry) → n ≤ length (hosts past) → NoneReady past → HostTurns n past past
+none_turn zero past within none = refl
+none_turn (suc n) past within none = (past, none_turn n past (omega arith) none, rested (none (host_numbered n) (omega arith)) refl)
+
+-- an endpoint is spent
+pub whole_cut : (scripts : List (List Command)) (ps : List CursorState) (slots : List SlotState) (a b : List Entry) (who : SpentWho) → IsRound scripts ps a b (Spent who) → IsWholeRound scripts ps slots a b (Spent who)
+whole_cut scripts ps slots a b (Endpoint n) round = (of_endpoints (n + 1) round.0, round.1)
+whole_cut scripts ps slots a b (Host h) round = absurd round
+
+-- the hosts made their turns behind all endpoints, and one did something or is spent
+pub whole_served : (scripts : List (List Command)) (ps : List CursorState) (old new : List SlotState) (a b c : List Entry) (r : Rounded) → Turns scripts 0 a b → first_spent_in 0 ps ≡ None
+    → (r ≡ Idle → ⊥) → HostsServed b c old new r → IsWholeRound scripts ps new a c r
+whole_served scripts ps old new a b c Moved turns unspent moved served = ((b, turns, served.0), unspent, served.1)
+whole_served scripts ps old new a b c Idle turns unspent moved served = absurd (moved refl)
+whole_served scripts ps old new a b c (Spent (Endpoint n)) turns unspent moved served = absurd served
+whole_served scripts ps old new a b c (Spent (Host h)) turns unspent moved served = (of_hosts b served.0 turns served.1 served.2, unspent, served.3)
+
+-- they could do nothing behind all endpoints
+pub whole_rested : (scripts : List (List Command)) (ps : List CursorState) (old new : List SlotState) (a b c : List Entry) (r : Rounded) → IsRound scripts ps a b r → ((who : SpentWho) → r ≡ Spent who → ⊥)
+    → length old ≡ length (hosts b) → HostsServed b c old new Idle → IsWholeRound scripts ps new a c r
+whole_rested scripts ps old new a b c Moved round unspent all (same, none, started, hosts_unspent, same_slots) =
+    let here : AllTurns scripts a b = (b, round.0, none_turn (length (hosts b)) b (omega arith) none) in
+    (subst (λ j. AllTurns scripts a j) (sym same) here, round.1, hosts_unspent)
+whole_rested scripts ps old new a b c Idle round unspent all (same, none, started, hosts_unspent, same_slots) =
+    let counted : length new ≡ length (hosts c) = ap length same_slots ∙ all ∙ sym (ap (λ j. length (hosts j)) same) in
+    (same ∙ round.3, round.2, subst (λ j. NoneReady j) round.3 none, started, counted, round.1, hosts_unspent)
+whole_rested scripts ps old new a b c (Spent who) round unspent all served = absurd (unspent who refl)
+
+-- ---- what stands behind a whole round
+
+-- the hosts stand behind the endpoints' part
+pub round_keeps : (writing : Option Writing) (world : WorldLists) (scripts : List (List Command)) (ps : List CursorState) (slots : List SlotState) (a b : List Entry) (r : Rounded) → IsRound scripts ps a b r → HostsStand writing world a slots → HostsStand writing world b slots
+round_keeps writing world scripts ps slots a b Moved round stand = Turns_keep writing world scripts 0 a b slots round.0 stand
+round_keeps writing world scripts ps slots a b Idle round stand = Turns_keep writing world scripts 0 a b slots round.0 stand
+round_keeps writing world scripts ps slots a b (Spent (Endpoint n)) round stand = Turns_keep writing world (take (n + 1) scripts) 0 a b slots round.0 stand
+round_keeps writing world scripts ps slots a b (Spent (Host h)) round stand = absurd round
+
+-- all endpoints made their turns, unless one is spent
+pub round_made : (scripts : List (List Command)) (ps : List CursorState) (a b : List Entry) (r : Rounded) → IsRound scripts ps a b r → ((who : SpentWho) → r ≡ Spent who → ⊥) → Turns scripts 0 a b × (first_spent_in 0 ps ≡ None)
+round_made scripts ps a b Moved round unspent = (round.0, round.1)
+round_made scripts ps a b Idle round unspent = (round.0, round.1)
+round_made scripts ps a b (Spent who) round unspent = absurd (unspent who refl)
+
+-- the endpoints stand behind the turns of hosts
+pub served_stand : (world : WorldLists) (scripts : List (List Command)) (ps : List CursorState) (old new : List SlotState) (a b : List Entry) (r : Rounded) → AllStand world scripts ps a → HostsServed a b old new r → EachAfter (FollowsMachine world) b → AllStand world scripts ps b
+served_stand world scripts ps old new a b Moved stand served legal = endpoints_stand world scripts ps a b stand (host_turns_stay (length (hosts a)) a b served.0) legal
+served_stand world scripts ps old new a b Idle stand served legal = subst (λ j. AllStand world scripts ps j) (sym served.0) stand
+served_stand world scripts ps old new a b (Spent (Endpoint n)) stand served legal = absurd served
+served_stand world scripts ps old new a b (Spent (Host h)) stand served legal = endpoints_stand world scripts ps a b stand (host_turns_stay served.0 a b served.2) legal
+
+-- and behind that of the first host
+pub heard_stand : (world : WorldLists) (scripts : List (List Command)) (ps : List CursorState) (old new : List SlotState) (a b : List Entry) (r : Rounded) → AllStand world scripts ps a → FirstHeard a b old new r → EachAfter (FollowsMachine world) b → AllStand world scripts ps b
+heard_stand world scripts ps old new a b Moved stand heard legal = endpoints_stand world scripts ps a b stand (says_stays heard.0.0 a b heard.0.2) legal
+heard_stand world scripts ps old new a b Idle stand heard legal = subst (λ j. AllStand world scripts ps j) (sym heard.0) stand
+heard_stand world scripts ps old new a b (Spent (Endpoint n)) stand heard legal = absurd heard
+heard_stand world scripts ps old new a b (Spent (Host g)) stand heard legal = endpoints_stand world scripts ps a b stand (says_stays heard.0.0 a b heard.0.2) legal
+
+-- ---- fewer turns are left
+
+-- as many as are left where each host has its slot
+abbrev turns_with_all : ℕ → ℕ → ℕ
+turns_with_all work left = (host_limit + 5) * work + left
+
+all_slots : (ps : List CursorState) (slots : List SlotState) (past : List Entry) → length slots ≡ length (hosts past) → turns_in ps slots past ≡ turns_with_all (work_in ps) (all_turns_left slots)
+all_slots ps slots past all =
+    let none : length (hosts past) - length slots ≡ 0 = omega (arith, all) in
+    ap (λ n. (host_limit + 5) * work_in ps + (host_limit + 4) * n + all_turns_left slots) none ∙ omega arith
+
+-- behind an entry, whatever the hosts did
+moved_fewer : (w v g h s k l m : ℕ) → v < w → h + v ≤ g + w → s ≤ g → l ≡ k + (host_limit + 4) * (h - s) → m ≤ l → turns_with_all v m < (host_limit + 5) * w + (host_limit + 4) * (g - s) + k
+moved_fewer w v g h s k l m less called below left most = omega (arith, less, called, below, left, most)
+
+-- behind the turn of a host
+served_fewer : (w v g h s k l m : ℕ) → v ≤ w → h + v ≤ g + w → s ≤ g → l ≡ k + (host_limit + 4) * (h - s) → m < l → turns_with_all v m < (host_limit + 5) * w + (host_limit + 4) * (g - s) + k
+served_fewer w v g h s k l m less called below left most = omega (arith, less, called, below, left, most)
+
+-- at the slots that were added, which are all
+pub record SlotsAdded (old new : List SlotState) (past : List Entry) : Type 0 where
+  pub all : length new ≡ length (hosts past)
+  pub left : all_turns_left new ≡ all_turns_left old + (host_limit + 4) * (length new - length old)
+
+pub slots_added : {P : Type 0} (state : P → StarterState) (old new : List (SlotView P)) (past : List Entry) → length new ≡ length (hosts past)
+    → all_turns_left (slots_of state new) ≡ all_turns_left (slots_of state old) + (host_limit + 4) * (length new - length old) → SlotsAdded (slots_of state old) (slots_of state new) past
+slots_added state old new past all left =
+    let more : length new - length old ≡ length (slots_of state new) - length (slots_of state old) = omega (arith, length-map new (slot_of state), length-map old (slot_of state)) in
+    record {
+      all = length-map new (slot_of state) ∙ all;
+      left = left ∙ ap (λ n. all_turns_left (slots_of state old) + (host_limit + 4) * n) more;
+    }
+
+left_so : (old mid : List SlotState) (b : List Entry) → SlotsAdded old mid b → all_turns_left mid ≡ all_turns_left old + (host_limit + 4) * (length (hosts b) - length old)
+left_so old mid b added = subst (λ n. all_turns_left mid ≡ all_turns_left old + (host_limit + 4) * (n - length old)) added.all added.left
+
+-- the endpoints' part of a round never leaves more
+no_more : (ps qs : List CursorState) (a b : List Entry) (r : Rounded) → RoundLessens ps qs a b r → ((who : SpentWho) → r ≡ Spent who → ⊥) → (work_in qs ≤ work_in ps) × (length (hosts b) + work_in qs ≤ length (hosts a) + work_in ps)
+no_more ps qs a b Moved less unspent = (let fewer = less.fewer in omega arith, less.one_host_each)
+no_more ps qs a b Idle less unspent = (let fewer = less.fewer in omega arith, less.one_host_each)
+no_more ps qs a b (Spent who) less unspent = absurd (unspent who refl)
+
+pub served_lessens : (ps qs : List CursorState) (old mid new : List SlotState) (a b c : List Entry) (r : Rounded) (made : Rounded) → RoundLessens ps qs a b made → ((who : SpentWho) → made ≡ Spent who → ⊥)
+    → length old ≤ length (hosts a) → SlotsAdded old mid b → length new ≡ length mid → (r ≡ Idle → ⊥) → HostsServed b c mid new r → TurnsLessen (turns_in ps old a) (turns_in qs new c) r
+served_lessens ps qs old mid new a b c Moved made less unspent below added same_size moved served =
+    let few = no_more ps qs a b made less unspent in
+    let kept = ap length (hosts_stay b c (host_turns_stay (length (hosts b)) b c served.0)) in
+    let all : length new ≡ length (hosts c) = same_size ∙ added.all ∙ sym kept in
+    subst (λ n. n < turns_in ps old a) (sym (all_slots qs new c all))
+    (served_fewer (work_in ps) (work_in qs) (length (hosts a)) (length (hosts b)) (length old) (all_turns_left old) (all_turns_left mid) (all_turns_left new) few.0 few.1 below (left_so old mid b added) served.2)
+served_lessens ps qs old mid new a b c Idle made less unspent below added same_size moved served = absurd (moved refl)
+served_lessens ps qs old mid new a b c (Spent who) made less unspent below added same_size moved served = tt
+
+pub rested_lessens : (scripts : List (List Command)) (ps qs : List CursorState) (old mid new : List SlotState) (a b c : List Entry) (r : Rounded) → IsRound scripts qs a b r → RoundLessens ps qs a b r
+    → length old ≤ length (hosts a) → SlotsAdded old mid b → HostsServed b c mid new Idle → TurnsLessen (turns_in ps old a) (turns_in qs new c) r
+rested_lessens scripts ps qs old mid new a b c Moved round less below added served =
+    let all : length new ≡ length (hosts c) = ap length served.4 ∙ added.all ∙ sym (ap (λ j. length (hosts j)) served.0) in
+    let most : all_turns_left new ≤ all_turns_left mid = (let same = ap all_turns_left served.4 in omega (arith, same)) in
+    subst (λ n. n < turns_in ps old a) (sym (all_slots qs new c all))
+    (moved_fewer (work_in ps) (work_in qs) (length (hosts a)) (length (hosts b)) (length old) (all_turns_left old) (all_turns_left mid) (all_turns_left new) less.fewer less.one_host_each below (left_so old mid b added) most)
+rested_lessens scripts ps qs old mid new a b c Idle round less below added served =
+    let all : length new ≡ length (hosts c) = ap length served.4 ∙ added.all ∙ sym (ap (λ j. length (hosts j)) served.0) in
+    let left : all_turns_left new ≡ all_turns_left old + (host_limit + 4) * (length (hosts a) - length old) =
+    ap all_turns_left served.4 ∙ left_so old mid b added ∙ ap (λ j. all_turns_left old + (host_limit + 4) * (length (hosts j) - length old)) round.3 in
+    let same_work : work_in qs ≡ work_in ps = less.fewer in
+    all_slots qs new c all ∙ omega (arith, left, same_work)
+rested_lessens scripts ps qs old mid new a b c (Spent who) round less below added served = tt
+
+-- the turn of the first host
+pub heard_lessens : (ps : List CursorState) (old new : List SlotState) (a b : List Entry) (r : Rounded) → length old ≡ length (hosts a) → length new ≡ length old → FirstHeard a b old new r → TurnsLessen (turns_in ps old a) (turns_in ps new b) r
+heard_lessens ps old new a b Moved all same_size heard =
+    let kept = ap length (hosts_stay a b (says_stays heard.0.0 a b heard.0.2)) in
+    let fewer = heard.2 in
+    let before = all_slots ps old a all in
+    let after = all_slots ps new b (same_size ∙ all ∙ sym kept) in
+    omega (arith, before, after, fewer)
+heard_lessens ps old new a b Idle all same_size heard = ap (λ j. turns_in ps new j) heard.0 ∙ ap (λ slots. turns_in ps slots a) heard.2
+heard_lessens ps old new a b (Spent who) all same_size heard = tt
+
+-- ---- the next round
+
+all_or_none : (scripts : List (List Command)) (a b : List Entry) → AllTurns scripts a b → RoundOrNone scripts a b
+all_or_none scripts a b turns =
+    let grown = grows_on a turns.0 b (Turns_grow scripts 0 a turns.0 turns.1) (by_hosts_grow turns.0 b (host_turns_stay (length (hosts turns.0)) turns.0 b turns.2)) in
+    elim (same_or_more a b grown) [
+      | inl same ↦ inr same
+      | inr moved ↦ inl (of_all turns.0 turns.1 turns.2 moved)
+    ]
+
+-- a whole round in which somebody did something is the next
+pub next_whole : (world : WorldLists) (scripts : List (List Command)) (ps : List CursorState) (slots : List SlotState) (a b : List Entry) (r : Rounded) → AllStand world scripts ps b → (r ≡ Idle → ⊥) → IsWholeRound scripts ps slots a b r → IsNextRound scripts ps slots a b r
+next_whole world scripts ps slots a b Moved stand moved round = (all_or_none scripts a b round.0, round.1, round.2)
+next_whole world scripts ps slots a b Idle stand moved round = absurd (moved refl)
+next_whole world scripts ps slots a b (Spent (Endpoint n)) stand moved round = (a, inr refl, round.0, spent_behind scripts ps b stand.behind ∙ round.1)
+next_whole world scripts ps slots a b (Spent (Host h)) stand moved round = (a, inr refl, round.0, (spent_behind scripts ps b stand.behind ∙ round.1, round.2))
+
+heard_round : (scripts : List (List Command)) (ps : List CursorState) (slots : List SlotState) (a b c : List Entry) → IsWholeRound scripts ps slots a b Idle → (h : HostNo) → IsFirstUnended b h → SaysOrEnds h b c → Round scripts a c
+heard_round scripts ps slots a b c idle h first turn =
+    let here : Round scripts b c = of_first_host (subst (λ j. AreIdle scripts j) (sym idle.0) idle.1) (subst (λ j. NoneReady j) (sym idle.0) idle.2) h first turn in
+    subst (λ j. Round scripts j c) idle.0 here
+
+-- where nobody could do anything, the first host's turn is the next round
+pub next_heard : (world : WorldLists) (scripts : List (List Command)) (ps : List CursorState) (old new : List SlotState) (a b c : List Entry) (r : Rounded) → AllStand world scripts ps c → IsWholeRound scripts ps old a b Idle
+    → FirstHeard b c old new r → IsNextRound scripts ps new a c r
+next_heard world scripts ps old new a b c Moved stand idle heard = (inl (heard_round scripts ps old a b c idle heard.0.0 heard.0.1 heard.0.2), idle.5, heard.1)
+next_heard world scripts ps old new a b c Idle stand idle heard = (
+  record {
+    idle = subst (λ j. AreIdle scripts j) (sym (heard.0 ∙ idle.0)) idle.1;
+    ended = subst (λ j. HaveEnded j) (sym heard.0) heard.1;
+    same = heard.0 ∙ idle.0;
+  },
+  idle.5,
+)
+next_heard world scripts ps old new a b c (Spent (Endpoint n)) stand idle heard = absurd heard
+next_heard world scripts ps old new a b c (Spent (Host g)) stand idle heard =
+    (c, inl (heard_round scripts ps old a b c idle heard.0.0 heard.0.1 heard.0.2), of_endpoints 0 refl, (spent_behind scripts ps c stand.behind ∙ idle.5, heard.1))
+
+-- the same of what `hear_first` answers
+pub heard_stands : (world : WorldLists) (scripts : List (List Command)) (ps : List CursorState) (old new : List SlotState) (a b : List Entry) (result : Result Rounded NoMemory) → AllStand world scripts ps a
+    → IfOk result (λ r. FirstHeard a b old new r) → OnOk result (EachAfter (FollowsMachine world) b) → OnOk result (AllStand world scripts ps b)
+heard_stands world scripts ps old new a b (Ok r) stand heard legal = heard_stand world scripts ps old new a b r stand heard legal
+heard_stands world scripts ps old new a b (Err e) stand heard legal = tt
+
+pub heard_next : (world : WorldLists) (scripts : List (List Command)) (ps : List CursorState) (old new : List SlotState) (a b c : List Entry) (result : Result Rounded NoMemory) → AllStand world scripts ps b → IsWholeRound scripts ps old a b Idle
+    → IfOk result (λ r. FirstHeard b c old new r) → OnOk result (EachAfter (FollowsMachine world) c) → IfOk result (λ r. IsNextRound scripts ps new a c r)
+heard_next world scripts ps old new a b c (Ok r) stand idle heard legal = next_heard world scripts ps old new a b c r (heard_stand world scripts ps old new b c r stand heard legal) idle heard
+heard_next world scripts ps old new a b c (Err e) stand idle heard legal = tt
+
+then_lessens : (m n k : ℕ) (r : Rounded) → n ≡ m → TurnsLessen n k r → TurnsLessen m k r
+then_lessens m n k r same less = subst (λ n. TurnsLessen n k r) same less
+
+pub heard_lessens_on : (before : ℕ) (scripts : List (List Command)) (ps : List CursorState) (old new : List SlotState) (a b c : List Entry) (result : Result Rounded NoMemory) → IsWholeRound scripts ps old a b Idle → turns_in ps old b ≡ before
+    → length new ≡ length old → IfOk result (λ r. FirstHeard b c old new r) → IfOk result (λ r. TurnsLessen before (turns_in ps new c) r)
+heard_lessens_on before scripts ps old new a b c (Ok r) idle same same_size heard = then_lessens before (turns_in ps old b) (turns_in ps new c) r same (heard_lessens ps old new b c r idle.4 same_size heard)
+heard_lessens_on before scripts ps old new a b c (Err e) idle same same_size heard = tt
+
+-- ---- places
+
+keeping_none : (n : ℕ) (s : StarterState) → s ≡ keeping (n - n) s
+keeping_none n s =
+    let same : s.places ≡ s.places + (n - n) = omega arith in
+    λ i. record s { places = same i }
+
+pub keeps_none : (slots : List SlotState) (s : StarterState) → KeepsPlaces slots slots s s
+keeps_none slots s = record { more = omega arith; kept = keeping_none (length slots) s }
+
+-- slots of one size
+pub keeps_same : (slots new : List SlotState) (s : StarterState) → length new ≡ length slots → KeepsPlaces slots new s s
+keeps_same slots new s same =
+    let none : length slots - length slots ≡ length new - length slots = omega (arith, same) in
+    record { more = omega (arith, same); kept = keeping_none (length slots) s ∙ ap (λ n. keeping n s) none }
+
+pub places_kept : {P : Type 0} (state : P → StarterState) (old new : List (SlotView P)) (a b : StarterState) → length old ≤ length new → b ≡ keeping (length new - length old) a → KeepsPlaces (slots_of state old) (slots_of state new) a b
+places_kept state old new a b more kept =
+    let same : length new - length old ≡ length (slots_of state new) - length (slots_of state old) = omega (arith, length-map new (slot_of state), length-map old (slot_of state)) in
+    record {
+      more = omega (arith, more, length-map new (slot_of state), length-map old (slot_of state));
+      kept = kept ∙ ap (λ n. keeping n a) same;
+    }
+
+pub keeps_on : (old mid new : List SlotState) (a b c : StarterState) → KeepsPlaces old mid a b → KeepsPlaces mid new b c → KeepsPlaces old new a c
+keeps_on old mid new a b c first second =
+    let both : a.places + (length mid - length old) + (length new - length mid) ≡ a.places + (length new - length old) = (let more = first.more in let most = second.more in omega (arith, more, most)) in
+    record {
+      more = (let more = first.more in let most = second.more in omega (arith, more, most));
+      kept = second.kept ∙ ap (λ s. keeping (length new - length mid) s) first.kept ∙ (λ i. record a { places = both i });
+    }
+
+-- children write what they wrote
+pub keeps_writing : (old new : List SlotState) (a b : StarterState) → KeepsPlaces old new a b → b.writing ≡ a.writing
+keeps_writing old new a b keeps = ap (λ (s : StarterState). s.writing) keeps.kept
+
+-- slots of one size as their views are
+pub same_sizes : {P : Type 0} (state : P → StarterState) (old new : List (SlotView P)) → length new ≡ length old → length (slots_of state new) ≡ length (slots_of state old)
+same_sizes state old new same = length-map new (slot_of state) ∙ same ∙ sym (length-map old (slot_of state))
+
+-- a slot was added for each host that had none
+pub places_added : {P : Type 0} (state : P → StarterState) (writing : Option Writing) (world : WorldLists) (past : List Entry) (old new : List (SlotView P)) (a b : StarterState) → HostsStand writing world past (slots_of state old) → length new ≡ length (hosts past)
+    → b ≡ keeping (length new - length old) a → KeepsPlaces (slots_of state old) (slots_of state new) a b
+places_added state writing world past old new a b stand all kept =
+    let below = stand.below in
+    places_kept state old new a b (omega (arith, below, all, length-map old (slot_of state))) kept
+
+-- ---- rounds
+
+-- the same of the world, the scripts and what children write as they stand now
+pub ready_now : (writing told : Option Writing) (world other : WorldLists) (scripts ss : List (List Command)) (ps : List CursorState) (slots : List SlotState) (past : List Entry) → told ≡ writing → other ≡ world → ss ≡ scripts
+    → AreReady writing world scripts ps slots past → AreReady told other ss ps slots past
+ready_now writing told world other scripts ss ps slots past same_writing same_world same_scripts ready =
+    subst (λ w. AreReady w other ss ps slots past) (sym same_writing)
+    (subst (λ w. AreReady writing w ss ps slots past) (sym same_world)
+    (subst (λ ss. AreReady writing world ss ps slots past) (sym same_scripts) ready))
+
+pub stand_now : (world other : WorldLists) (scripts ss : List (List Command)) (ps : List CursorState) (past : List Entry) → other ≡ world → ss ≡ scripts → AllStand other ss ps past → AllStand world scripts ps past
+stand_now world other scripts ss ps past same_world same_scripts stand = subst (λ w. AllStand w scripts ps past) same_world (subst (λ ss. AllStand other ss ps past) same_scripts stand)
+
+pub hosts_now : (writing told : Option Writing) (world other : WorldLists) (past : List Entry) (slots : List SlotState) → told ≡ writing → other ≡ world → HostsStand told other past slots → HostsStand writing world past slots
+hosts_now writing told world other past slots same_writing same_world stand = subst (λ w. HostsStand writing w past slots) same_world (subst (λ t. HostsStand t other past slots) same_writing stand)
+
+pub round_now : (scripts ss : List (List Command)) (ps : List CursorState) (slots : List SlotState) (a b : List Entry) (r q : Rounded) → ss ≡ scripts → r ≡ q → IsNextRound ss ps slots a b r → IsNextRound scripts ps slots a b q
+round_now scripts ss ps slots a b r q same_scripts is round = subst (λ r. IsNextRound scripts ps slots a b r) is (subst (λ ss. IsNextRound ss ps slots a b r) same_scripts round)
+
+pub rounds_begin : (writing : Option Writing) (world : WorldLists) (scripts : List (List Command)) (ps : List CursorState) (slots : List SlotState) (a : List Entry) → AreReady writing world scripts ps slots a → RoundsSoFar writing world scripts ps slots a a
+rounds_begin writing world scripts ps slots a ready = record { ready = ready; rounds = λ m last r. (m, r) }
+
+-- one round more, or none
+rounds_more : (scripts : List (List Command)) (b c : List Entry) → RoundOrNone scripts b c → (m : ℕ) (last : List Entry) → Rounds m scripts c last → (n : ℕ) × Rounds n scripts b last
+rounds_more scripts b c (inl round) m last r = (suc m, (c, round, r))
+rounds_more scripts b c (inr same) m last r = (m, subst (λ j. Rounds m scripts j last) same r)
+
+pub rounds_go_on : (writing : Option Writing) (world : WorldLists) (scripts : List (List Command)) (ps qs : List CursorState) (old new : List SlotState) (a b c : List Entry) → RoundsSoFar writing world scripts ps old a b
+    → AllStand world scripts qs c → HostsStand writing world c new → IsNextRound scripts qs new b c Moved → RoundsSoFar writing world scripts qs new a c
+rounds_go_on writing world scripts ps qs old new a b c so stand hosts_stand round = record {
+  ready = record { endpoints = stand; unspent = round.1; hosts_stand = hosts_stand; hosts_unspent = round.2 };
+  rounds = λ m last r. let more = rounds_more scripts b c round.0 m last r in so.rounds more.0 last more.1;
 }
 
--- no endpoint can do anything
-pub rounds_idle : (world : WorldLists) (scripts : List (List Command)) (ps qs : List CursorState) (a b c : List Entry) → RoundsSoFar world scripts ps a b → AllStand world scripts qs c → IsRound scripts qs b c Idle
-    → AreRounds scripts a c (cond (all_left qs) end.Done end.Stalled)
-rounds_idle world scripts ps qs a b c so stand round =
+-- nobody can do anything
+pub rounds_idle : (writing : Option Writing) (world : WorldLists) (scripts : List (List Command)) (ps qs : List CursorState) (old new : List SlotState) (a b c : List Entry) → RoundsSoFar writing world scripts ps old a b → AllStand world scripts qs c
+    → IsNextRound scripts qs new b c Idle → AreRounds scripts a c (cond (all_left qs) end.Done end.Stalled)
+rounds_idle writing world scripts ps qs old new a b c so stand round =
     let rounds = so.rounds 0 c (inl round.0) in
-    let ended : HaveEnded c = subst (λ j. HaveEnded j) (sym round.0.same) so.hosts_ended in
     record {
       count = rounds.0;
       rounds = rounds.1;
       follows = stand.follows;
       within_limit = stand.within_limit;
       ended = elim (all_left qs) as (λ d. all_left qs ≡ d → EndsBy scripts c (cond d end.Done end.Stalled)) [
-        | true ↦ λ is. (done_behind scripts qs c stand.behind is, ended)
+        | true ↦ λ is. (done_behind scripts qs c stand.behind is, round.0.ended)
         | false ↦ λ is. (
           record {
             unspent = spent_behind scripts qs c stand.behind ∙ round.1;
             idle = round.0.idle;
             unended = λ done. let never : true ≡ false = sym (left_behind scripts qs c stand.behind done) ∙ is in cc;
           },
-          ended,
+          round.0.ended,
         )
       ] refl;
     }
 
--- an endpoint is spent
-pub rounds_spent : (world : WorldLists) (scripts : List (List Command)) (ps qs : List CursorState) (a b c : List Entry) (n : ℕ) → RoundsSoFar world scripts ps a b → AllStand world scripts qs c → IsRound scripts qs b c (Spent n)
-    → AreRounds scripts a c (end.Spent (Endpoint n))
-rounds_spent world scripts ps qs a b c n so stand round =
-    let spent : spent_of scripts c ≡ Some n = spent_behind scripts qs c stand.behind ∙ round.1 in
-    let rounds = so.rounds 0 c (inr (record { spent = ap is_some spent; count = n + 1; turns = round.0 })) in
-    record { count = rounds.0; rounds = rounds.1; follows = stand.follows; within_limit = stand.within_limit; ended = spent }
+ends_spent : (scripts : List (List Command)) (past : List Entry) (who : SpentWho) → EndsBy scripts past (end.Spent who) → IsSpent scripts past
+ends_spent scripts past (Endpoint n) ends = inl (n, ends)
+ends_spent scripts past (Host h) ends = inr (h, ends.1)
+
+-- somebody is spent
+pub rounds_spent : (writing : Option Writing) (world : WorldLists) (scripts : List (List Command)) (ps qs : List CursorState) (old new : List SlotState) (a b c : List Entry) (who : SpentWho) → RoundsSoFar writing world scripts ps old a b → AllStand world scripts qs c
+    → IsNextRound scripts qs new b c (Spent who) → AreRounds scripts a c (end.Spent who)
+rounds_spent writing world scripts ps qs old new a b c who so stand (between, round, turns, ends) =
+    let cut : IsCutShort scripts between c = record { spent = ends_spent scripts c who ends; turns = turns } in
+    let last = rounds_more scripts b between round 0 c (inr cut) in
+    let rounds = so.rounds last.0 c last.1 in
+    record { count = rounds.0; rounds = rounds.1; follows = stand.follows; within_limit = stand.within_limit; ended = ends }
 
 -- an endpoint is spent ahead of the first round
 pub spent_before : (world : WorldLists) (scripts : List (List Command)) (ps : List CursorState) (a : List Entry) (n : ℕ) → AllStand world scripts ps a → first_spent_in 0 ps ≡ Some n → AreRounds scripts a a (end.Spent (Endpoint n))
 spent_before world scripts ps a n stand is =
     let spent : spent_of scripts a ≡ Some n = spent_behind scripts ps a stand.behind ∙ is in
-    record { count = 0; rounds = inr (record { spent = ap is_some spent; count = 0; turns = refl }); follows = stand.follows; within_limit = stand.within_limit; ended = spent }
+    let cut : IsCutShort scripts a a = record { spent = inl (n, spent); turns = of_endpoints 0 refl } in
+    record { count = 0; rounds = inr cut; follows = stand.follows; within_limit = stand.within_limit; ended = spent }
 
-Rounds_grow : (n : ℕ) (ss : List (List Command)) (a b : List Entry) → Rounds n ss a b → Grows a b
-Rounds_grow zero ss a b rounds = elim rounds [
-  | inl over ↦ ([], over.same)
-  | inr cut ↦ Turns_grow (take cut.count ss) 0 a b cut.turns
-]
-Rounds_grow (suc n) ss a b rounds =
-    let whole = rounds.1 in
-    let turns = grows_on a whole.between rounds.0 (Turns_grow ss 0 a whole.between whole.turns) (HostsEnd_grow whole.host_turns.count (length (hosts a)) whole.between rounds.0 whole.host_turns.ends) in
-    grows_on a rounds.0 b turns (Rounds_grow n ss rounds.0 b rounds.2)
+-- a run ends with every host ended, or spent
+pub ended_or_spent : (scripts : List (List Command)) (past : List Entry) (e : RunEnd) → EndsBy scripts past e → HaveEnded past ⊎ IsSpent scripts past
+ended_or_spent scripts past end.Done ends = inl ends.1
+ended_or_spent scripts past end.Stalled ends = inl ends.1
+ended_or_spent scripts past (end.Spent who) ends = inr (ends_spent scripts past who ends)
 
 pub begins_with : (n : ℕ) (ss : List (List Command)) (front journal : List Entry) → Rounds n ss (reverse front) (reverse journal) → BeginsWith front journal
 begins_with n ss front journal rounds =
     let grown = Rounds_grow n ss (reverse front) (reverse journal) rounds in
     (reverse grown.0, sym (reverse-reverse journal) ∙ ap reverse grown.1 ∙ reverse-append grown.0 (reverse front) ∙ ap (λ j. j ++ reverse grown.0) (reverse-reverse front))
+
+-- the records that the slots of all hosts leave are taken over
+pub have_records : (scripts : List (List Command)) (world : WorldLists) (past : List Entry) (e : RunEnd) (slots : List SlotState) (old mid new : StarterState) → EndsBy scripts past e → HostsStand old.writing world past slots → length slots ≡ length (hosts past)
+    → KeepsPlaces [] slots old mid → new.records ≡ mid.records ++ map closing_record slots → HaveRecords (IsSpent scripts past) world past old new
+have_records scripts world past e slots old mid new ends stand all keeps taken = record {
+  more = map closing_record slots;
+  taken_over = taken ∙ ap (λ (s : StarterState). s.records ++ map closing_record slots) keeps.kept;
+  one_each = length-map slots closing_record ∙ all;
+  meet = records_meet (IsSpent scripts past) old.writing world past slots stand all (ended_or_spent scripts past e ends);
+}
+
+-- the starter keeps a place for each slot
+pub has_places : (slots : List SlotState) (old new : StarterState) → KeepsPlaces [] slots old new → length slots ≤ new.places
+has_places slots old new keeps = let places = ap (λ (s : StarterState). s.places) keeps.kept in omega (arith, places)

@@ -7,4 +7,5 @@ pub mod Slots
 pub mod Serving
 pub mod Step
 pub mod Round
+pub mod Running
 pub mod Opened

@@ -1,4 +1,4 @@
--- What a round over all endpoints does. Every list of entries has the newest first.
+-- The endpoints' part of a round. Every list of entries has the newest first.
 use Rattle.std.specs.Prelude.{◌≡◌, ℕ, ◌+◌, ◌<◌, ◌≤◌, Bool, true, false, length, take, List, slice_get, Some, None}
 use Rattle.wx_id.specs.declared.numbers.ContextNo.{ContextNo}
 use Rattle.wx_external.specs.World.{WorldLists}
@@ -6,18 +6,17 @@ use Rattle.wx_machine.specs.declared.entries.Entry.{Entry}
 use Rattle.wx_machine.specs.Answers.{FollowsMachine}
 use Rattle.wx_machine.specs.Contexts.{contexts}
 use Rattle.wx_machine.specs.Each.{EachAfter}
+use Rattle.wx_machine.specs.Hosts.{hosts}
 use Rattle.wx_script.specs.declared.script.Command.{Command}
 use Rattle.wx_script.specs.Places.{next_of}
 use Rattle.wx_script.specs.Carries.{FollowsScript}
-use Rattle.wx_script.specs.Ends.{numbered, is_idle, entries_by, entry_limit}
+use Rattle.wx_script.specs.Ends.{numbered, is_idle, AreIdle, entries_by, entry_limit}
+use Rattle.wx_script.specs.declared.scene.SpentWho.TheVariants.{Endpoint, Host}
 use Rattle.wx_endpoint.specs.Turn.{CursorState}
-use Rattle.wx_run.specs.declared.outcome.RunEnd.{RunEnd}
 use Rattle.wx_run.specs.declared.rounds.Rounded.{Rounded}
 use Rattle.wx_run.specs.declared.rounds.Rounded.TheVariants.{Moved, Idle, Spent}
-use Rattle.wx_run.specs.Cursors.{AreBehind, first_spent_in}
-use Rattle.wx_run.specs.Rounds.{Turns, Rounds, IsOver}
-use Rattle.wx_run.specs.Run.{EndsBy}
-use Rattle.wx_run.specs.Hosts.{HaveEnded}
+use Rattle.wx_run.specs.Cursors.{AreBehind, first_spent_in, work_in}
+use Rattle.wx_run.specs.Rounds.{Turns}
 
 -- each entry follows the scripts
 abbrev pub Follows : List (List Command) → List Entry → Type 0
@@ -52,33 +51,26 @@ pub record RoundSoFar (world : WorldLists) (scripts : List (List Command)) (i : 
   pub turns : Turns (take i scripts) 0 before after
   pub idle : IdleUnlessMoved scripts i before after moved
 
--- A round: every endpoint has made its turn and none is spent; or none can do anything; or the last one that made its turn is spent.
+-- The endpoints' part of a round: every endpoint has made its turn and none is spent; or none can do anything; or the last one
+-- that made its turn is spent.
 abbrev pub IsRound : List (List Command) → List CursorState → List Entry → List Entry → Rounded → Type 0
 IsRound scripts cursors before after Moved = Turns scripts 0 before after × (first_spent_in 0 cursors ≡ None)
-IsRound scripts cursors before after Idle = IsOver scripts before after × (first_spent_in 0 cursors ≡ None)
-IsRound scripts cursors before after (Spent n) = Turns (take (n + 1) scripts) 0 before after × (first_spent_in 0 cursors ≡ Some n)
+IsRound scripts cursors before after Idle = Turns scripts 0 before after × (first_spent_in 0 cursors ≡ None) × AreIdle scripts before × (after ≡ before)
+IsRound scripts cursors before after (Spent (Endpoint n)) = Turns (take (n + 1) scripts) 0 before after × (first_spent_in 0 cursors ≡ Some n)
+IsRound scripts cursors before after (Spent (Host h)) = ⊥
 
 -- where an entry was made, fewer may still be made
-abbrev pub Lessens : Bool → ℕ → ℕ → Type 0
-Lessens true old new = new < old
-Lessens false old new = new ≡ old
+abbrev pub Falls : Bool → ℕ → ℕ → Type 0
+Falls true old new = new < old
+Falls false old new = new ≡ old
 
--- behind a whole round in which entries were made, fewer may still be made
-abbrev pub RoundLessens : Rounded → ℕ → ℕ → Type 0
-RoundLessens Moved old new = new < old
-RoundLessens _ old new = Unit {0}
+-- Where entries were made, fewer may still be made; and each entry calls one host at most.
+pub record Lessens (moved : Bool) (old new : List CursorState) (before after : List Entry) : Type 0 where
+  pub fewer : Falls moved (work_in old) (work_in new)
+  pub one_host_each : length (hosts after) + work_in new ≤ length (hosts before) + work_in old
 
--- Rounds led from one past to another, and so the run ends.
-pub record AreRounds (scripts : List (List Command)) (before after : List Entry) (end : RunEnd) : Type 0 where
-  pub count : ℕ
-  pub rounds : Rounds count scripts before after
-  pub follows : Follows scripts after
-  pub within_limit : IsWithinLimit after
-  pub ended : EndsBy scripts after end
-
--- Rounds led from one past to another so far: whatever rounds follow, they are rounds from the first.
-pub record RoundsSoFar (world : WorldLists) (scripts : List (List Command)) (cursors : List CursorState) (before after : List Entry) : Type 0 where
-  pub stand : AllStand world scripts cursors after
-  pub unspent : first_spent_in 0 cursors ≡ None
-  pub hosts_ended : HaveEnded after
-  pub rounds : (m : ℕ) (last : List Entry) → Rounds m scripts after last → (n : ℕ) × Rounds n scripts before last
+-- the same of a round in which nobody is spent
+abbrev pub RoundLessens : List CursorState → List CursorState → List Entry → List Entry → Rounded → Type 0
+RoundLessens old new before after Moved = Lessens true old new before after
+RoundLessens old new before after Idle = Lessens false old new before after
+RoundLessens old new before after (Spent who) = Unit {0}

@@ -1,12 +1,17 @@
 ghost use Rattle.std.specs.Prelude.{◌≡◌, IfOk, OnOk, None, reverse, if◌then◌else◌};
-ghost use Rattle.wx_run.specs.Cursors.{scripts_in, first_spent_in, all_left, work_in};
-ghost use Rattle.wx_run.specs.Hosts.{HaveEnded};
-ghost use Rattle.wx_run.specs.Round.{AllStand, IsRound, RoundLessens, AreRounds};
+ghost use Rattle.wx_host_slot.specs.Slots.{slots_of};
+ghost use Rattle.wx_run.specs.Cursors.{scripts_in, first_spent_in, all_left};
+ghost use Rattle.wx_run.specs.Slots.{HostsStand, first_spent_slot};
+ghost use Rattle.wx_run.specs.Round.{AllStand, IsRound, RoundLessens};
+ghost use Rattle.wx_run.specs.Running.{AreReady, IsWholeRound, IsNextRound, turns_in, TurnsLessen, KeepsPlaces, AreRounds};
 
-use crate::hosts::end_hosts;
+use crate::hosts::{add_slots, hear_first, serve_hosts};
 use crate::outcome::RunEnd;
 use crate::step::make_turn;
+use std::alloc::Global;
 use wx_endpoint::{BrokerDesk, Cursor};
+use wx_host_launch::Starter;
+use wx_host_slot::HostSlot;
 use wx_id::{ContextNo, NoMemory};
 use wx_script::SpentWho;
 
@@ -45,13 +50,13 @@ fn end_of(cursors: &[Cursor<'_>]) -> RunEnd
     RunEnd::Done
 }
 
-/// One round: a turn of each endpoint, in rising number, until one is spent.
-pub fn round(cursors: &mut Vec<Cursor<'_>>, desk: &mut BrokerDesk) -> Result<Rounded, NoMemory>
+/// The endpoints' part of a round: a turn of each, in rising number, until one is spent.
+fn round(cursors: &mut Vec<Cursor<'_>>, desk: &mut BrokerDesk) -> Result<Rounded, NoMemory>
     requires stand { AllStand desk.old.broker.world (scripts_in cursors.old.items) cursors.old.items (reverse desk.old.broker.entries) }
     requires unspent { first_spent_in 0 cursors.old.items ≡ None }
     ensures stand { OnOk result (AllStand desk.old.broker.world (scripts_in cursors.old.items) cursors.new.items (reverse desk.new.broker.entries)) }
     ensures round { IfOk result (λ rounded. IsRound (scripts_in cursors.old.items) cursors.new.items (reverse desk.old.broker.entries) (reverse desk.new.broker.entries) rounded) }
-    ensures less { IfOk result (λ rounded. RoundLessens rounded (work_in cursors.old.items) (work_in cursors.new.items)) }
+    ensures less { IfOk result (λ rounded. RoundLessens cursors.old.items cursors.new.items (reverse desk.old.broker.entries) (reverse desk.new.broker.entries) rounded) }
     ensures same_world { OnOk result (desk.new.broker.world ≡ desk.old.broker.world) }
 {
     let mut moved = false;
@@ -60,29 +65,85 @@ pub fn round(cursors: &mut Vec<Cursor<'_>>, desk: &mut BrokerDesk) -> Result<Rou
         let cursor = &mut cursors[i];
         moved |= make_turn(cursor, desk)?;
         if cursor.is_spent() {
-            return Ok(Rounded::Spent(i as u64));
+            return Ok(Rounded::Spent(SpentWho::Endpoint(i as u64)));
         }
     }
     Ok(if moved { Rounded::Moved } else { Rounded::Idle })
 }
 
-/// Round after round, until no endpoint can do anything or one is spent. Behind the turns of a round the hosts that were
-/// started in it end.
-pub fn run_rounds(cursors: &mut Vec<Cursor<'_>>, desk: &mut BrokerDesk) -> Result<RunEnd, NoMemory>
+/// A whole round: the turns of all endpoints, and then of all hosts, those included that were called in it.
+fn whole_round<P: Starter>(
+    alloc: Global,
+    cursors: &mut Vec<Cursor<'_>>,
+    slots: &mut Vec<HostSlot<P>>,
+    desk: &mut BrokerDesk,
+    starter: &mut P,
+) -> Result<Rounded, NoMemory>
+    requires { AreReady (P.state starter.old).writing desk.old.broker.world (scripts_in cursors.old.items) cursors.old.items (slots_of P.state slots.old.items) (reverse desk.old.broker.entries) }
+    ensures stand { OnOk result (AllStand desk.old.broker.world (scripts_in cursors.old.items) cursors.new.items (reverse desk.new.broker.entries)) }
+    ensures hosts_stand { OnOk result (HostsStand (P.state starter.old).writing desk.old.broker.world (reverse desk.new.broker.entries) (slots_of P.state slots.new.items)) }
+    ensures round { IfOk result (λ rounded. IsWholeRound (scripts_in cursors.old.items) cursors.new.items (slots_of P.state slots.new.items) (reverse desk.old.broker.entries) (reverse desk.new.broker.entries) rounded) }
+    ensures less { IfOk result (λ rounded. TurnsLessen (turns_in cursors.old.items (slots_of P.state slots.old.items) (reverse desk.old.broker.entries)) (turns_in cursors.new.items (slots_of P.state slots.new.items) (reverse desk.new.broker.entries)) rounded) }
+    ensures kept { OnOk result (KeepsPlaces (slots_of P.state slots.old.items) (slots_of P.state slots.new.items) (P.state starter.old) (P.state starter.new)) }
+    ensures same_world { OnOk result (desk.new.broker.world ≡ desk.old.broker.world) }
+{
+    let turns = round(cursors, desk)?;
+    if let Rounded::Spent(_) = turns {
+        return Ok(turns);
+    }
+    add_slots(&desk.broker, slots, starter)?;
+    match serve_hosts(alloc, &mut desk.broker, slots)? {
+        Rounded::Idle => Ok(turns),
+        served => Ok(served),
+    }
+}
+
+/// The next round of a run: a whole round; or, where nobody can do anything, the turn of the first host that has not ended.
+fn next_round<P: Starter>(
+    alloc: Global,
+    cursors: &mut Vec<Cursor<'_>>,
+    slots: &mut Vec<HostSlot<P>>,
+    desk: &mut BrokerDesk,
+    starter: &mut P,
+) -> Result<Rounded, NoMemory>
+    requires { AreReady (P.state starter.old).writing desk.old.broker.world (scripts_in cursors.old.items) cursors.old.items (slots_of P.state slots.old.items) (reverse desk.old.broker.entries) }
+    ensures stand { OnOk result (AllStand desk.old.broker.world (scripts_in cursors.old.items) cursors.new.items (reverse desk.new.broker.entries)) }
+    ensures hosts_stand { OnOk result (HostsStand (P.state starter.old).writing desk.old.broker.world (reverse desk.new.broker.entries) (slots_of P.state slots.new.items)) }
+    ensures round { IfOk result (λ rounded. IsNextRound (scripts_in cursors.old.items) cursors.new.items (slots_of P.state slots.new.items) (reverse desk.old.broker.entries) (reverse desk.new.broker.entries) rounded) }
+    ensures less { IfOk result (λ rounded. TurnsLessen (turns_in cursors.old.items (slots_of P.state slots.old.items) (reverse desk.old.broker.entries)) (turns_in cursors.new.items (slots_of P.state slots.new.items) (reverse desk.new.broker.entries)) rounded) }
+    ensures kept { OnOk result (KeepsPlaces (slots_of P.state slots.old.items) (slots_of P.state slots.new.items) (P.state starter.old) (P.state starter.new)) }
+    ensures same_world { OnOk result (desk.new.broker.world ≡ desk.old.broker.world) }
+{
+    match whole_round(alloc, cursors, slots, desk, starter)? {
+        Rounded::Idle => hear_first(&mut desk.broker, slots),
+        rounded => Ok(rounded),
+    }
+}
+
+/// Round after round, until nobody can do anything or someone is spent.
+pub fn run_rounds<P: Starter>(
+    alloc: Global,
+    cursors: &mut Vec<Cursor<'_>>,
+    slots: &mut Vec<HostSlot<P>>,
+    desk: &mut BrokerDesk,
+    starter: &mut P,
+) -> Result<RunEnd, NoMemory>
     requires stand { AllStand desk.old.broker.world (scripts_in cursors.old.items) cursors.old.items (reverse desk.old.broker.entries) }
-    requires hosts { HaveEnded (reverse desk.old.broker.entries) }
+    requires hosts_stand { HostsStand (P.state starter.old).writing desk.old.broker.world (reverse desk.old.broker.entries) (slots_of P.state slots.old.items) }
+    requires hosts_unspent { first_spent_slot 0 (slots_of P.state slots.old.items) ≡ None }
     ensures rounds { IfOk result (λ end. AreRounds (scripts_in cursors.old.items) (reverse desk.old.broker.entries) (reverse desk.new.broker.entries) end) }
+    ensures hosts_stand { OnOk result (HostsStand (P.state starter.old).writing desk.old.broker.world (reverse desk.new.broker.entries) (slots_of P.state slots.new.items)) }
+    ensures kept { OnOk result (KeepsPlaces (slots_of P.state slots.old.items) (slots_of P.state slots.new.items) (P.state starter.old) (P.state starter.new)) }
     ensures same_world { OnOk result (desk.new.broker.world ≡ desk.old.broker.world) }
 {
     if let Some(i) = first_spent(cursors) {
         return Ok(RunEnd::Spent(SpentWho::Endpoint(i)));
     }
-    let mut hosts = desk.broker.hosts();
     loop {
-        match round(cursors, desk)? {
-            Rounded::Moved => hosts = end_hosts(desk, hosts)?,
+        match next_round(alloc, cursors, slots, desk, starter)? {
+            Rounded::Moved => {}
             Rounded::Idle => return Ok(end_of(cursors)),
-            Rounded::Spent(i) => return Ok(RunEnd::Spent(SpentWho::Endpoint(i))),
+            Rounded::Spent(who) => return Ok(RunEnd::Spent(who)),
         }
     }
 }

@@ -1,6 +1,10 @@
-ghost use Rattle.std.specs.Prelude.{IfOk};
+ghost use Rattle.std.specs.Prelude.{IfOk, reverse};
+ghost use Rattle.wx_script.specs.SceneValue.{scripts_of};
+ghost use Rattle.wx_run.specs.Rounds.{IsSpent};
+ghost use Rattle.wx_run.specs.Hosts.{HaveRecords};
 ghost use Rattle.wx_run.specs.Run.{IsRunOf};
 
+use crate::hosts::{add_slots, finish_hosts};
 use crate::opening::open;
 use crate::outcome::Outcome;
 use crate::rounds::run_rounds;
@@ -8,19 +12,30 @@ use std::alloc::Global;
 use wx_broker::Broker;
 use wx_endpoint::BrokerDesk;
 use wx_external::World;
+use wx_host_launch::Starter;
 use wx_id::{ContextNo, NoMemory};
 use wx_script::Scene;
 
-/// A run of the scene: the opening, and round after round until no endpoint can do anything or one is spent.
-pub fn run_scene(alloc: Global, scene: &Scene, world: World) -> Result<Outcome, NoMemory>
-    ensures { IfOk result (λ outcome. IsRunOf world scene.now outcome.journal.entries outcome.end) }
+/// A run of the scene: the opening, and round after round until nobody can do anything or someone is spent. The starter
+/// starts the hosts' programs, and takes over a record for each host.
+pub fn run_scene<P: Starter>(
+    alloc: Global,
+    scene: &Scene,
+    world: World,
+    starter: &mut P,
+) -> Result<Outcome, NoMemory>
+    ensures run { IfOk result (λ outcome. IsRunOf world scene.now outcome.journal.entries outcome.end) }
+    ensures records { IfOk result (λ outcome. HaveRecords (IsSpent (scripts_of scene.now) (reverse outcome.journal.entries)) world (reverse outcome.journal.entries) (P.state starter.old) (P.state starter.new)) }
 {
     let mut desk = BrokerDesk {
         broker: Broker::new(alloc, world),
         context: ContextNo(0),
     };
     let mut cursors = open(alloc, scene, &mut desk)?;
-    let end = run_rounds(&mut cursors, &mut desk)?;
+    let mut slots = Vec::new(alloc);
+    let end = run_rounds(alloc, &mut cursors, &mut slots, &mut desk, starter)?;
+    add_slots(&desk.broker, &mut slots, starter)?;
+    finish_hosts(slots, starter);
     let BrokerDesk { broker, context: _ } = desk;
     Ok(Outcome {
         journal: broker.into_journal(),

@@ -2,6 +2,7 @@ use crate::{Outcome, RunEnd, run_scene};
 use std::alloc::Global;
 use std::test::Fail;
 use wx_external::World;
+use wx_host_launch::MemoryStarter;
 use wx_script::Scene;
 
 /// A scene's text, the text of the journal that its run leaves, and how the run ends.
@@ -77,7 +78,9 @@ const RUNS: [(&str, &str, RunEnd); 11] = [
 /// The text of the journal of a run of the scene that this text spells, and how the run ends.
 fn journal_text(alloc: Global, text: &str) -> Option<(Vec<u8>, RunEnd)> {
     let scene = Scene::read(alloc, text.as_bytes()).ok()?;
-    let Ok(Outcome { journal, end }) = run_scene(alloc, &scene, World::new(alloc)) else {
+    let mut starter = MemoryStarter::new(alloc, &[], 0);
+    let Ok(Outcome { journal, end }) = run_scene(alloc, &scene, World::new(alloc), &mut starter)
+    else {
         return None;
     };
     Some((journal.print(alloc).ok()?, end))

@@ -1,4 +1,4 @@
-use Rattle.std.proofs.Common.{◌∙◌, ◌<◌, length, arith, sym, subst, refl}
+use Rattle.std.proofs.Common.{◌≡◌, ◌∙◌, ◌<◌, length, arith, sym, subst, refl}
 use Rattle.std.specs.Prelude.{reverse}
 use Rattle.wx_script.specs.Ends.{numbered}
 use Rattle.wx_run.specs.Cursors.{scripts_in}
@@ -11,7 +11,7 @@ pub loop-i-init : goal.loop-i-init
 loop-i-init c = record {
   same_length = sym c.len-i-end.ensures;
   same_world = refl;
-  less = refl;
+  less = record { fewer = refl; one_host_each = omega arith };
   so_far = round_begins c.args.desk.now.broker.world (scripts_in c.args.cursors.now.items) c.args.cursors.now.items _ c.requires.stand c.requires.unspent;
 }
 
@@ -58,7 +58,7 @@ loop-i-preserved c =
     record {
       same_length = c.loop-i.invariant.same_length;
       same_world = c.in_ok-moved.ensures.same_world ∙ c.loop-i.invariant.same_world;
-      less = turn_lessens c.args.desk.now.broker.world (scripts_in c.args.cursors.now.items) c.loop-i.i c.loop-i.cursors.items _ p q _ _ _ c.loop-i.moved c.in_ok-moved.field-0 _ so at step c.loop-i.invariant.less;
+      less = turn_lessens c.args.desk.now.broker.world (scripts_in c.args.cursors.now.items) c.loop-i.i c.args.cursors.now.items c.loop-i.cursors.items _ p q _ _ _ c.loop-i.moved c.in_ok-moved.field-0 so.stand at step c.loop-i.invariant.less;
       so_far = turn_made c.args.desk.now.broker.world (scripts_in c.args.cursors.now.items) c.loop-i.i c.loop-i.cursors.items _ p q _ _ _ c.loop-i.moved c.in_ok-moved.field-0 so at step (sym c.if-is_spent.ensures);
     }
 
@@ -72,5 +72,6 @@ pub returns-else-moved-clause-round : goal.returns-else-moved-clause-round
 returns-else-moved-clause-round c =
     let so = c.loop-i.invariant.so_far in
     let len = length_behind (scripts_in c.args.cursors.now.items) c.loop-i.cursors.items _ so.stand.behind in
+    let all : c.loop-i.i ≡ length (scripts_in c.args.cursors.now.items) = omega (arith, c.loop-i.cursors.ok.0, c.loop-i.invariant.same_length, c.loop-i-test.false, c.loop-i.auto.i-end, len) in
     let here = subst (λ m. RoundSoFar c.args.desk.now.broker.world (scripts_in c.args.cursors.now.items) c.loop-i.i c.loop-i.cursors.items (reverse c.args.desk.now.broker.entries) (reverse c.loop-i.desk.broker.entries) m) c.if-moved.false so in
-    (all_idle c.args.desk.now.broker.world (scripts_in c.args.cursors.now.items) c.loop-i.i c.loop-i.cursors.items _ _ (omega (arith, c.loop-i.cursors.ok.0, c.loop-i.invariant.same_length, c.loop-i-test.false, c.loop-i.auto.i-end, len)) here, so.unspent)
+    all_idle c.args.desk.now.broker.world (scripts_in c.args.cursors.now.items) c.loop-i.i c.loop-i.cursors.items _ _ all here

@@ -1,91 +1,130 @@
-use Rattle.std.proofs.Common.{◌∙◌, sym, ap, subst, refl, cond, length, arith}
+use Rattle.std.proofs.Common.{◌≡◌, ◌∙◌, sym, ap, subst, refl, cond}
 use Rattle.std.specs.Prelude.{reverse}
+use Rattle.wx_host_slot.specs.Slots.{slots_of}
 use Rattle.wx_run.specs.declared.rounds.Rounded.TheVariants.{Moved, Idle, Spent}
 use Rattle.wx_run.specs.declared.outcome.RunEnd.TheVariants.{Done, Stalled}
 use Rattle.wx_run.specs.Cursors.{scripts_in, first_spent_in, all_left}
-use Rattle.wx_machine.specs.Answers.{IsLegal}
-use Rattle.wx_machine.specs.Hosts.{hosts}
-use Rattle.wx_run.specs.Round.{AllStand, IsRound, AreRounds}
-use Rattle.wx_run.specs.Hosts.{HostTurns}
+use Rattle.wx_run.specs.Round.{AllStand}
+use Rattle.wx_run.specs.Running.{IsNextRound, turns_in, TurnsLessen, AreRounds}
 use Rattle.wx_run.proofs.RoundLemmas.{scripts_behind}
-use Rattle.wx_run.proofs.RunLemmas.{rounds_begin, rounds_go_on, rounds_idle, rounds_spent, spent_before}
-use Rattle.wx_run.proofs.HostLemmas.{hosts_grow, Turns_grow}
+use Rattle.wx_run.proofs.RunLemmas.{keeps_none, keeps_on, keeps_writing, ready_now, stand_now, hosts_now, round_now, rounds_begin, rounds_go_on, rounds_idle, rounds_spent, spent_before}
 use Rattle.wx_run.proofs.rounds.run_rounds.Goals as goal
 
 pub returns-in-Some-clause-rounds : goal.returns-in-Some-clause-rounds
-returns-in-Some-clause-rounds c =
+returns-in-Some-clause-rounds g c =
     spent_before c.args.desk.now.broker.world (scripts_in c.args.cursors.now.items) c.args.cursors.now.items _ c.in-Some.i c.requires.stand
     (ap (first_spent_in 0) (sym c.deref.ensures.value) ∙ sym c.in-Some.ensures)
 
-pub loop-desk-init : goal.loop-desk-init
-loop-desk-init c = record {
-  same_world = refl;
-  counted = c.hosts-hosts.ensures;
-  so_far = rounds_begin c.args.desk.now.broker.world (scripts_in c.args.cursors.now.items) c.args.cursors.now.items _ c.requires.stand c.requires.hosts
-      (ap (first_spent_in 0) (sym c.deref.ensures.value) ∙ sym c.in_default.ensures);
-}
+pub loop-cursors-init : goal.loop-cursors-init
+loop-cursors-init g c =
+    let unspent = ap (first_spent_in 0) (sym c.deref.ensures.value) ∙ sym c.in_default.ensures in
+    record {
+      same_world = refl;
+      kept = keeps_none (slots_of g.P.Starter.state c.args.slots.now.items) (g.P.Starter.state c.args.starter.now);
+      so_far = rounds_begin (g.P.Starter.state c.args.starter.now).writing c.args.desk.now.broker.world (scripts_in c.args.cursors.now.items) c.args.cursors.now.items (slots_of g.P.Starter.state c.args.slots.now.items) _
+          (record { endpoints = c.requires.stand; unspent = unspent; hosts_stand = c.requires.hosts_stand; hosts_unspent = c.requires.hosts_unspent });
+    }
 
-pub round-requires-clause-stand : goal.round-requires-clause-stand
-round-requires-clause-stand c =
-    let so = c.loop-desk.invariant.so_far in
-    let scripts = scripts_behind (scripts_in c.args.cursors.now.items) c.loop-desk.cursors.items _ so.stand.behind in
-    subst (λ w. AllStand w (scripts_in c.loop-desk.cursors.items) c.loop-desk.cursors.items (reverse c.loop-desk.desk.broker.entries)) (sym c.loop-desk.invariant.same_world)
-    (subst (λ ss. AllStand c.args.desk.now.broker.world ss c.loop-desk.cursors.items (reverse c.loop-desk.desk.broker.entries)) (sym scripts) so.stand)
+pub next_round-requires-after_bounds : goal.next_round-requires-after_bounds
+next_round-requires-after_bounds g c κs within =
+    let so = c.loop-cursors.invariant.so_far in
+    let scripts = scripts_in c.args.cursors.now.items in
+    let ps = c.loop-cursors.cursors.items in
+    ready_now (g.P.Starter.state c.args.starter.now).writing (g.P.Starter.state c.loop-cursors.starter).writing c.args.desk.now.broker.world c.loop-cursors.desk.broker.world scripts (scripts_in ps) ps
+    (slots_of g.P.Starter.state c.loop-cursors.slots.items) (reverse c.loop-cursors.desk.broker.entries)
+    (keeps_writing _ _ _ _ c.loop-cursors.invariant.kept) c.loop-cursors.invariant.same_world (scripts_behind scripts ps _ so.ready.endpoints.behind) so.ready
 
-pub loop-desk-preserved : goal.loop-desk-preserved
-loop-desk-preserved c =
-    let so = c.loop-desk.invariant.so_far in
+pub loop-cursors-smaller : goal.loop-cursors-smaller
+loop-cursors-smaller g c =
+    let before = turns_in c.loop-cursors.cursors.items (slots_of g.P.Starter.state c.loop-cursors.slots.items) (reverse c.loop-cursors.desk.broker.entries) in
+    let after = turns_in c.next_round.new.cursors.items (slots_of g.P.Starter.state c.next_round.new.slots.items) (reverse c.next_round.new.desk.broker.entries) in
+    subst (λ r. TurnsLessen before after r) c.in-Moved.is c.in_ok-next_round.ensures.less
+
+pub loop-cursors-preserved : goal.loop-cursors-preserved
+loop-cursors-preserved g c =
+    let so = c.loop-cursors.invariant.so_far in
+    let state = g.P.Starter.state in
     let world = c.args.desk.now.broker.world in
     let scripts = scripts_in c.args.cursors.now.items in
-    let before = reverse c.loop-desk.desk.broker.entries in
-    let between = reverse c.round.new.desk.broker.entries in
-    let after = reverse c.end_hosts.new.desk.broker.entries in
-    let same_scripts = scripts_behind scripts c.loop-desk.cursors.items _ so.stand.behind in
-    let same_world = c.in_ok-round.ensures.same_world ∙ c.loop-desk.invariant.same_world in
-    let stand : AllStand world scripts c.round.new.cursors.items between =
-    subst (λ ss. AllStand world ss c.round.new.cursors.items between) same_scripts
-    (subst (λ w. AllStand w (scripts_in c.loop-desk.cursors.items) c.round.new.cursors.items between) c.loop-desk.invariant.same_world c.in_ok-round.ensures.stand) in
-    let round : IsRound scripts c.round.new.cursors.items before between Moved =
-    subst (λ ss. IsRound ss c.round.new.cursors.items before between Moved) same_scripts
-    (subst (λ r. IsRound (scripts_in c.loop-desk.cursors.items) c.round.new.cursors.items before between r) c.in-Moved.is c.in_ok-round.ensures.round) in
-    let turns : HostTurns (length (hosts before)) between after = subst (λ n. HostTurns n between after) c.loop-desk.invariant.counted c.in_ok-hosts-in-Moved.ensures.turns in
-    let legal : IsLegal world c.end_hosts.new.desk.broker.entries = subst (λ w. IsLegal w c.end_hosts.new.desk.broker.entries) same_world c.in_ok-hosts-in-Moved.ensures.legal in
+    let ps = c.loop-cursors.cursors.items in
+    let qs = c.next_round.new.cursors.items in
+    let b = reverse c.loop-cursors.desk.broker.entries in
+    let d = reverse c.next_round.new.desk.broker.entries in
+    let old = slots_of state c.loop-cursors.slots.items in
+    let new = slots_of state c.next_round.new.slots.items in
+    let all = c.in_ok-next_round.ensures in
+    let same_scripts = scripts_behind scripts ps b so.ready.endpoints.behind in
+    let stand : AllStand world scripts qs d = stand_now world c.loop-cursors.desk.broker.world scripts (scripts_in ps) qs d c.loop-cursors.invariant.same_world same_scripts all.stand in
+    let round : IsNextRound scripts qs new b d Moved = round_now scripts (scripts_in ps) qs new b d c.in_ok-next_round.field-0 Moved same_scripts c.in-Moved.is all.round in
+    let hosts_stand = hosts_now (g.P.Starter.state c.args.starter.now).writing (g.P.Starter.state c.loop-cursors.starter).writing c.args.desk.now.broker.world c.loop-cursors.desk.broker.world (reverse c.next_round.new.desk.broker.entries) (slots_of g.P.Starter.state c.next_round.new.slots.items)
+    (keeps_writing _ _ _ _ c.loop-cursors.invariant.kept) c.loop-cursors.invariant.same_world c.in_ok-next_round.ensures.hosts_stand in
     record {
-      same_world = c.in_ok-hosts-in-Moved.ensures.same_world ∙ same_world;
-      counted = c.in_ok-hosts-in-Moved.ensures.count;
-      so_far = rounds_go_on world scripts c.loop-desk.cursors.items c.round.new.cursors.items _ before between after so stand round turns legal;
+      same_world = all.same_world ∙ c.loop-cursors.invariant.same_world;
+      kept = keeps_on (slots_of g.P.Starter.state c.args.slots.now.items) (slots_of g.P.Starter.state c.loop-cursors.slots.items) (slots_of g.P.Starter.state c.next_round.new.slots.items)
+    (g.P.Starter.state c.args.starter.now) (g.P.Starter.state c.loop-cursors.starter) (g.P.Starter.state c.next_round.new.starter) c.loop-cursors.invariant.kept c.in_ok-next_round.ensures.kept;
+      so_far = rounds_go_on (state c.args.starter.now).writing world scripts ps qs old new _ b d so stand hosts_stand round;
     }
 
 pub returns-in-Idle-clause-rounds : goal.returns-in-Idle-clause-rounds
-returns-in-Idle-clause-rounds c =
-    let so = c.loop-desk.invariant.so_far in
-    let scripts = scripts_behind (scripts_in c.args.cursors.now.items) c.loop-desk.cursors.items _ so.stand.behind in
-    let stand : AllStand c.args.desk.now.broker.world (scripts_in c.args.cursors.now.items) c.round.new.cursors.items (reverse c.round.new.desk.broker.entries) =
-    subst (λ ss. AllStand c.args.desk.now.broker.world ss c.round.new.cursors.items (reverse c.round.new.desk.broker.entries)) scripts
-    (subst (λ w. AllStand w (scripts_in c.loop-desk.cursors.items) c.round.new.cursors.items (reverse c.round.new.desk.broker.entries)) c.loop-desk.invariant.same_world c.in_ok-round.ensures.stand) in
-    let round : IsRound (scripts_in c.args.cursors.now.items) c.round.new.cursors.items (reverse c.loop-desk.desk.broker.entries) (reverse c.round.new.desk.broker.entries) Idle =
-    subst (λ ss. IsRound ss c.round.new.cursors.items (reverse c.loop-desk.desk.broker.entries) (reverse c.round.new.desk.broker.entries) Idle) scripts
-    (subst (λ r. IsRound (scripts_in c.loop-desk.cursors.items) c.round.new.cursors.items (reverse c.loop-desk.desk.broker.entries) (reverse c.round.new.desk.broker.entries) r) c.in-Idle.is c.in_ok-round.ensures.round) in
-    subst (λ end. AreRounds (scripts_in c.args.cursors.now.items) (reverse c.args.desk.now.broker.entries) (reverse c.round.new.desk.broker.entries) end)
+returns-in-Idle-clause-rounds g c =
+    let so = c.loop-cursors.invariant.so_far in
+    let state = g.P.Starter.state in
+    let world = c.args.desk.now.broker.world in
+    let scripts = scripts_in c.args.cursors.now.items in
+    let ps = c.loop-cursors.cursors.items in
+    let qs = c.next_round.new.cursors.items in
+    let b = reverse c.loop-cursors.desk.broker.entries in
+    let d = reverse c.next_round.new.desk.broker.entries in
+    let old = slots_of state c.loop-cursors.slots.items in
+    let new = slots_of state c.next_round.new.slots.items in
+    let all = c.in_ok-next_round.ensures in
+    let same_scripts = scripts_behind scripts ps b so.ready.endpoints.behind in
+    let stand : AllStand world scripts qs d = stand_now world c.loop-cursors.desk.broker.world scripts (scripts_in ps) qs d c.loop-cursors.invariant.same_world same_scripts all.stand in
+    let round : IsNextRound scripts qs new b d Idle = round_now scripts (scripts_in ps) qs new b d c.in_ok-next_round.field-0 Idle same_scripts c.in-Idle.is all.round in
+    subst (λ end. AreRounds scripts (reverse c.args.desk.now.broker.entries) d end)
     (sym (c.end_of.ensures ∙ ap (λ ps. cond (all_left ps) Done Stalled) c.deref-in-Idle.ensures.value))
-    (rounds_idle c.args.desk.now.broker.world (scripts_in c.args.cursors.now.items) c.loop-desk.cursors.items c.round.new.cursors.items _ _ _ so stand round)
+    (rounds_idle (state c.args.starter.now).writing world scripts ps qs old new _ b d so stand round)
 
 pub returns-in-Spent-clause-rounds : goal.returns-in-Spent-clause-rounds
-returns-in-Spent-clause-rounds c =
-    let so = c.loop-desk.invariant.so_far in
-    let scripts = scripts_behind (scripts_in c.args.cursors.now.items) c.loop-desk.cursors.items _ so.stand.behind in
-    let stand : AllStand c.args.desk.now.broker.world (scripts_in c.args.cursors.now.items) c.round.new.cursors.items (reverse c.round.new.desk.broker.entries) =
-    subst (λ ss. AllStand c.args.desk.now.broker.world ss c.round.new.cursors.items (reverse c.round.new.desk.broker.entries)) scripts
-    (subst (λ w. AllStand w (scripts_in c.loop-desk.cursors.items) c.round.new.cursors.items (reverse c.round.new.desk.broker.entries)) c.loop-desk.invariant.same_world c.in_ok-round.ensures.stand) in
-    let round : IsRound (scripts_in c.args.cursors.now.items) c.round.new.cursors.items (reverse c.loop-desk.desk.broker.entries) (reverse c.round.new.desk.broker.entries) (Spent c.in-Spent.i) =
-    subst (λ ss. IsRound ss c.round.new.cursors.items (reverse c.loop-desk.desk.broker.entries) (reverse c.round.new.desk.broker.entries) (Spent c.in-Spent.i)) scripts
-    (subst (λ r. IsRound (scripts_in c.loop-desk.cursors.items) c.round.new.cursors.items (reverse c.loop-desk.desk.broker.entries) (reverse c.round.new.desk.broker.entries) r) c.in-Spent.is c.in_ok-round.ensures.round) in
-    rounds_spent c.args.desk.now.broker.world (scripts_in c.args.cursors.now.items) c.loop-desk.cursors.items c.round.new.cursors.items _ _ _ c.in-Spent.i so stand round
+returns-in-Spent-clause-rounds g c =
+    let so = c.loop-cursors.invariant.so_far in
+    let state = g.P.Starter.state in
+    let world = c.args.desk.now.broker.world in
+    let scripts = scripts_in c.args.cursors.now.items in
+    let ps = c.loop-cursors.cursors.items in
+    let qs = c.next_round.new.cursors.items in
+    let b = reverse c.loop-cursors.desk.broker.entries in
+    let d = reverse c.next_round.new.desk.broker.entries in
+    let old = slots_of state c.loop-cursors.slots.items in
+    let new = slots_of state c.next_round.new.slots.items in
+    let all = c.in_ok-next_round.ensures in
+    let same_scripts = scripts_behind scripts ps b so.ready.endpoints.behind in
+    let stand : AllStand world scripts qs d = stand_now world c.loop-cursors.desk.broker.world scripts (scripts_in ps) qs d c.loop-cursors.invariant.same_world same_scripts all.stand in
+    let round : IsNextRound scripts qs new b d (Spent c.in-Spent.who) = round_now scripts (scripts_in ps) qs new b d c.in_ok-next_round.field-0 (Spent c.in-Spent.who) same_scripts c.in-Spent.is all.round in
+    rounds_spent (state c.args.starter.now).writing world scripts ps qs old new _ b d c.in-Spent.who so stand round
 
-pub end_hosts-requires-clause-started : goal.end_hosts-requires-clause-started
-end_hosts-requires-clause-started c =
-    let scripts = scripts_in c.loop-desk.cursors.items in
-    let round : IsRound scripts c.round.new.cursors.items (reverse c.loop-desk.desk.broker.entries) (reverse c.round.new.desk.broker.entries) Moved =
-    subst (λ r. IsRound scripts c.round.new.cursors.items (reverse c.loop-desk.desk.broker.entries) (reverse c.round.new.desk.broker.entries) r) c.in-Moved.is c.in_ok-round.ensures.round in
-    let more = hosts_grow _ _ (Turns_grow scripts 0 _ _ round.0) in
-    omega (arith, more, c.loop-desk.invariant.counted)
+pub returns-in-Idle-clause-hosts_stand : goal.returns-in-Idle-clause-hosts_stand
+returns-in-Idle-clause-hosts_stand g c =
+    hosts_now (g.P.Starter.state c.args.starter.now).writing (g.P.Starter.state c.loop-cursors.starter).writing c.args.desk.now.broker.world c.loop-cursors.desk.broker.world (reverse c.next_round.new.desk.broker.entries) (slots_of g.P.Starter.state c.next_round.new.slots.items)
+    (keeps_writing _ _ _ _ c.loop-cursors.invariant.kept) c.loop-cursors.invariant.same_world c.in_ok-next_round.ensures.hosts_stand
+
+pub returns-in-Idle-clause-kept : goal.returns-in-Idle-clause-kept
+returns-in-Idle-clause-kept g c =
+    keeps_on (slots_of g.P.Starter.state c.args.slots.now.items) (slots_of g.P.Starter.state c.loop-cursors.slots.items) (slots_of g.P.Starter.state c.next_round.new.slots.items)
+    (g.P.Starter.state c.args.starter.now) (g.P.Starter.state c.loop-cursors.starter) (g.P.Starter.state c.next_round.new.starter) c.loop-cursors.invariant.kept c.in_ok-next_round.ensures.kept
+
+pub returns-in-Idle-clause-same_world : goal.returns-in-Idle-clause-same_world
+returns-in-Idle-clause-same_world g c = c.in_ok-next_round.ensures.same_world ∙ c.loop-cursors.invariant.same_world
+
+pub returns-in-Spent-clause-hosts_stand : goal.returns-in-Spent-clause-hosts_stand
+returns-in-Spent-clause-hosts_stand g c =
+    hosts_now (g.P.Starter.state c.args.starter.now).writing (g.P.Starter.state c.loop-cursors.starter).writing c.args.desk.now.broker.world c.loop-cursors.desk.broker.world (reverse c.next_round.new.desk.broker.entries) (slots_of g.P.Starter.state c.next_round.new.slots.items)
+    (keeps_writing _ _ _ _ c.loop-cursors.invariant.kept) c.loop-cursors.invariant.same_world c.in_ok-next_round.ensures.hosts_stand
+
+pub returns-in-Spent-clause-kept : goal.returns-in-Spent-clause-kept
+returns-in-Spent-clause-kept g c =
+    keeps_on (slots_of g.P.Starter.state c.args.slots.now.items) (slots_of g.P.Starter.state c.loop-cursors.slots.items) (slots_of g.P.Starter.state c.next_round.new.slots.items)
+    (g.P.Starter.state c.args.starter.now) (g.P.Starter.state c.loop-cursors.starter) (g.P.Starter.state c.next_round.new.starter) c.loop-cursors.invariant.kept c.in_ok-next_round.ensures.kept
+
+pub returns-in-Spent-clause-same_world : goal.returns-in-Spent-clause-same_world
+returns-in-Spent-clause-same_world g c = c.in_ok-next_round.ensures.same_world ∙ c.loop-cursors.invariant.same_world

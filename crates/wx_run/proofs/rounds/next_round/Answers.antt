@@ -1,0 +1,53 @@
+use Rattle.std.proofs.Common.{◌≡◌, subst}
+use Rattle.std.specs.Prelude.{reverse, OnOk}
+use Rattle.wx_machine.specs.Answers.{IsLegal}
+use Rattle.wx_host_slot.specs.Slots.{slots_of}
+use Rattle.wx_run.specs.declared.rounds.Rounded.TheVariants.{Idle}
+use Rattle.wx_run.specs.Cursors.{scripts_in}
+use Rattle.wx_run.specs.Running.{IsWholeRound, turns_in, TurnsLessen}
+use Rattle.wx_run.proofs.RunLemmas.{heard_stands, heard_next, heard_lessens_on, next_whole, same_sizes}
+use Rattle.wx_run.proofs.rounds.next_round.Goals as goal
+
+pub returns-in-Idle-clause-stand : goal.returns-in-Idle-clause-stand
+returns-in-Idle-clause-stand g c =
+    let legal : OnOk c.hear_first.result (IsLegal c.args.desk.now.broker.world c.hear_first.new.broker.entries) = subst (λ w. OnOk c.hear_first.result (IsLegal w c.hear_first.new.broker.entries)) c.in_ok-rounded.ensures.same_world c.hear_first.ensures.legal in
+    heard_stands c.args.desk.now.broker.world (scripts_in c.args.cursors.now.items) c.whole_round.new.cursors.items (slots_of g.P.Starter.state c.whole_round.new.slots.items) (slots_of g.P.Starter.state c.hear_first.new.slots.items)
+    (reverse c.whole_round.new.desk.broker.entries) (reverse c.hear_first.new.broker.entries) c.hear_first.result c.in_ok-rounded.ensures.stand c.hear_first.ensures.heard legal
+
+pub returns-in-Idle-clause-round : goal.returns-in-Idle-clause-round
+returns-in-Idle-clause-round g c =
+    let scripts = scripts_in c.args.cursors.now.items in
+    let ps = c.whole_round.new.cursors.items in
+    let a = reverse c.args.desk.now.broker.entries in
+    let b = reverse c.whole_round.new.desk.broker.entries in
+    let old = slots_of g.P.Starter.state c.whole_round.new.slots.items in
+    let legal : OnOk c.hear_first.result (IsLegal c.args.desk.now.broker.world c.hear_first.new.broker.entries) = subst (λ w. OnOk c.hear_first.result (IsLegal w c.hear_first.new.broker.entries)) c.in_ok-rounded.ensures.same_world c.hear_first.ensures.legal in
+    let idle : IsWholeRound scripts ps old a b Idle = subst (λ r. IsWholeRound scripts ps old a b r) c.in-Idle.is c.in_ok-rounded.ensures.round in
+    heard_next c.args.desk.now.broker.world scripts ps old (slots_of g.P.Starter.state c.hear_first.new.slots.items) a b (reverse c.hear_first.new.broker.entries) c.hear_first.result c.in_ok-rounded.ensures.stand idle c.hear_first.ensures.heard legal
+
+pub returns-in-Idle-clause-less : goal.returns-in-Idle-clause-less
+returns-in-Idle-clause-less g c =
+    let state = g.P.Starter.state in
+    let scripts = scripts_in c.args.cursors.now.items in
+    let ps = c.whole_round.new.cursors.items in
+    let a = reverse c.args.desk.now.broker.entries in
+    let b = reverse c.whole_round.new.desk.broker.entries in
+    let old = slots_of state c.whole_round.new.slots.items in
+    let before = turns_in c.args.cursors.now.items (slots_of state c.args.slots.now.items) a in
+    let idle : IsWholeRound scripts ps old a b Idle = subst (λ r. IsWholeRound scripts ps old a b r) c.in-Idle.is c.in_ok-rounded.ensures.round in
+    let less : TurnsLessen before (turns_in ps old b) Idle = subst (λ r. TurnsLessen before (turns_in ps old b) r) c.in-Idle.is c.in_ok-rounded.ensures.less in
+    heard_lessens_on before scripts ps old (slots_of state c.hear_first.new.slots.items) a b (reverse c.hear_first.new.broker.entries) c.hear_first.result idle less
+    (same_sizes state c.whole_round.new.slots.items c.hear_first.new.slots.items c.hear_first.ensures.same_size) c.hear_first.ensures.heard
+
+pub returns-in_default : goal.returns-in_default
+returns-in_default g c =
+    let all = c.in_ok-rounded.ensures in
+    record {
+      stand = all.stand;
+      hosts_stand = all.hosts_stand;
+      round = next_whole c.args.desk.now.broker.world (scripts_in c.args.cursors.now.items) c.whole_round.new.cursors.items (slots_of g.P.Starter.state c.whole_round.new.slots.items)
+          (reverse c.args.desk.now.broker.entries) (reverse c.whole_round.new.desk.broker.entries) c.in_ok-rounded.rounded all.stand c.in_default.not-Idle all.round;
+      less = all.less;
+      kept = all.kept;
+      same_world = all.same_world;
+    }
