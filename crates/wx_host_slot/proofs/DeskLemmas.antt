@@ -1,7 +1,7 @@
 -- What steps come to at a desk over a broker that nobody else has. Every list of entries has the newest first.
 use Rattle.std.proofs.Common.{◌≡◌, List, [], ◌∷◌, ◌++◌, Bool, true, false, Option, cond, refl, ap, ◌∙◌, sym, subst}
 use Rattle.std.specs.Prelude.{None, IsSome, reverse}
-use Rattle.std.proofs.lemmas.List.{append-nil, map-append, append_cancel_right}
+use Rattle.std.proofs.lemmas.List.{map-append, append_cancel_right}
 use Rattle.wx_id.specs.declared.numbers.HostNo.{HostNo}
 use Rattle.wx_id.specs.declared.numbers.EntryNo.{EntryNo}
 use Rattle.wx_external.specs.World.{WorldLists}

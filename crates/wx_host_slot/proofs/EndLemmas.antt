@@ -1,7 +1,7 @@
 -- A host ends by an own entry, and how a slot stands behind own entries. Every list of entries has the newest first.
-use Rattle.std.proofs.Common.{◌≡◌, ℕ, ◌+◌, ◌-◌, ◌<◌, ◌≤◌, List, [], ◌∷◌, ◌++◌, length, Bool, true, false, Option, Some, None, refl, ap, ◌∙◌, sym, subst, arith}
-use Rattle.std.specs.Prelude.{IsSome, not, ◌&&◌, nat_le}
-use Rattle.std.proofs.lemmas.Bool.{false≢true, true≢false, leb-false}
+use Rattle.std.proofs.Common.{◌≡◌, ℕ, ◌+◌, ◌-◌, ◌<◌, List, ◌∷◌, ◌++◌, Bool, true, false, Option, Some, None, refl, ap, ◌∙◌, sym, subst, arith}
+use Rattle.std.specs.Prelude.{not, ◌&&◌, nat_le}
+use Rattle.std.proofs.lemmas.Bool.{true≢false, leb-false}
 use Rattle.std.proofs.lemmas.List.{append-nil}
 use Rattle.wx_id.specs.declared.numbers.HostNo.{HostNo}
 use Rattle.wx_external.specs.World.{WorldLists}
@@ -12,7 +12,7 @@ use Rattle.wx_machine.specs.declared.entries.Reason.TheVariants.{StartFailed, Re
 use Rattle.wx_machine.specs.declared.entries.Answer.{Answer}
 use Rattle.wx_machine.specs.declared.entries.Entry.{Entry}
 use Rattle.wx_machine.specs.Texts.{has_ended, is_host_end, next_text}
-use Rattle.wx_host_launch.specs.Halves.{Sends, text_taken, text_said}
+use Rattle.wx_host_launch.specs.Halves.{Sends}
 use Rattle.wx_host_launch.specs.Records.{Program, Account, HostRecord, Writing}
 use Rattle.wx_host_slot.specs.Journals.{entries_of, taken_by, said_by, EachOf, LeavesNoText, IsInPlace, program_of}
 use Rattle.wx_host_slot.specs.Meets.{IsHeard, ToldCause, ToldEnd, CountedCause, CountedEnd, MeetsAccount, Told, MeetsStarted}

@@ -1,12 +1,11 @@
 -- What a turn of a child's input comes to at a desk over a broker. Every list of entries has the newest first.
-use Rattle.std.proofs.Common.{◌≡◌, ℕ, ◌+◌, ◌<◌, List, [], ◌∷◌, ◌++◌, Bool, true, false, ◌||◌, Option, Some, None, refl, ap, ◌∙◌, sym, subst, arith}
+use Rattle.std.proofs.Common.{◌≡◌, ℕ, ◌<◌, List, [], ◌∷◌, ◌++◌, Bool, true, false, ◌||◌, Option, Some, None, refl, ap, ◌∙◌, sym, subst, arith}
 use Rattle.std.specs.Prelude.{option_to_list}
 use Rattle.std.proofs.lemmas.List.{append-nil}
 use Rattle.wx_id.specs.declared.numbers.HostNo.{HostNo}
 use Rattle.wx_id.specs.declared.numbers.EntryNo.{EntryNo}
 use Rattle.wx_external.specs.World.{WorldLists}
 use Rattle.wx_native_frame.specs.Splits.{frames, AllFit, IsSplit}
-use Rattle.wx_machine.specs.declared.entries.Call.{Call}
 use Rattle.wx_machine.specs.declared.entries.Call.TheVariants.{HostTake, HostEnded}
 use Rattle.wx_machine.specs.declared.entries.Reason.TheVariants.{WriteFailed}
 use Rattle.wx_machine.specs.declared.entries.Answer.{Answer}
@@ -27,7 +26,7 @@ use Rattle.wx_host_launch.specs.Turns.{IsInTurn}
 use Rattle.wx_host_launch.specs.declared.turns.InTurn.TheVariants as into
 use Rattle.wx_host_launch.proofs.HostLemmas.{HasShortText, taken_short, text_of-more}
 use Rattle.wx_host_slot.specs.BrokerDesks.{seen_by}
-use Rattle.wx_host_slot.specs.Journals.{entries_of, taken_by, said_by, program_of}
+use Rattle.wx_host_slot.specs.Journals.{taken_by, said_by, program_of}
 use Rattle.wx_host_slot.specs.Meets.{IsHeard, MeetsAccount, Told, MeetsStarted}
 use Rattle.wx_host_slot.specs.Slots.{ChildState, SlotState, closing_record, PipesTold, IsStartedRecord, Runs, StandsRunning, Stands, IsServed}
 use Rattle.wx_host_slot.specs.Turns.{took, not_written, rested}

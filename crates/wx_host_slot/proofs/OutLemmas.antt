@@ -1,6 +1,6 @@
 -- What a turn of a child's output comes to at a desk over a broker. Every list of entries has the newest first.
 use Rattle.std.proofs.Common.{◌≡◌, ℕ, ◌+◌, ◌<◌, List, [], ◌∷◌, ◌++◌, Bool, true, false, not, ◌&&◌, ◌||◌, Option, Some, None, refl, ap, ◌∙◌, sym, subst, arith, append_assoc}
-use Rattle.std.specs.Prelude.{IsSome, is_some}
+use Rattle.std.specs.Prelude.{is_some}
 use Rattle.std.proofs.lemmas.Bool.{false≢true, true≢false}
 use Rattle.std.proofs.lemmas.List.{append-nil}
 use Rattle.wx_id.specs.declared.numbers.HostNo.{HostNo}
@@ -8,7 +8,6 @@ use Rattle.wx_id.specs.declared.numbers.EntryNo.{EntryNo}
 use Rattle.wx_external.specs.World.{WorldLists}
 use Rattle.wx_native_frame.specs.Frames.{Unfinished}
 use Rattle.wx_native_frame.specs.Splits.{frames, AllFit, IsSplit}
-use Rattle.wx_machine.specs.declared.entries.Call.{Call}
 use Rattle.wx_machine.specs.declared.entries.Call.TheVariants.{HostSaid, HostEnded}
 use Rattle.wx_machine.specs.declared.entries.Reason.{Reason}
 use Rattle.wx_machine.specs.declared.entries.Reason.TheVariants.{StartFailed, ReadFailed, WriteFailed, TooLong, BadJson, Cut, Exited, Closed}
@@ -19,18 +18,16 @@ use Rattle.wx_machine.specs.Answers.{is_host_ready, is_news, text_or_end}
 use Rattle.wx_machine.specs.Hosts.{work_of}
 use Rattle.wx_machine.specs.Texts.{has_ended, next_text, is_over as is_done, knows_end}
 use Rattle.wx_outside.specs.Causes.{Rose}
-use Rattle.wx_host_launch.specs.History.{Seen}
-use Rattle.wx_host_launch.specs.Halves.{texts_said, last_said_closed, IsCause, Sends, whole}
+use Rattle.wx_host_launch.specs.Halves.{texts_said, last_said_closed, IsCause, whole}
 use Rattle.wx_host_launch.specs.Pipes.{OutState, Stream, Gives, NoneComes}
 use Rattle.wx_host_launch.specs.Reading.{HasEnded}
 use Rattle.wx_host_launch.specs.Records.{Program, Account, HostRecord, Writing, with_bytes, finished}
-use Rattle.wx_host_launch.specs.Steps.{DeskState, past_of, FindsText}
+use Rattle.wx_host_launch.specs.Steps.{DeskState}
 use Rattle.wx_host_launch.specs.Turns.{IsOutTurn}
 use Rattle.wx_host_launch.specs.declared.turns.OutTurn.TheVariants as out
-use Rattle.wx_host_slot.specs.BrokerDesks.{seen_by}
 use Rattle.wx_host_slot.specs.Journals.{entries_of, taken_by, said_by, program_of}
-use Rattle.wx_host_slot.specs.Meets.{IsHeard, ToldCause, CountedCause, MeetsAccount, Told, MeetsStarted}
-use Rattle.wx_host_slot.specs.Slots.{ChildState, SlotState, closing_record, PipesTold, IsStartedRecord, Runs, StandsRunning, Stands, HasSpoken}
+use Rattle.wx_host_slot.specs.Meets.{IsHeard, ToldCause, CountedCause, MeetsAccount, Told}
+use Rattle.wx_host_slot.specs.Slots.{ChildState, SlotState, PipesTold, IsStartedRecord, Runs, StandsRunning, Stands, HasSpoken}
 use Rattle.wx_host_slot.specs.Turns.{said, ended}
 use Rattle.wx_host_slot.proofs.JournalLemmas.{own, taken_own, said_own, program_later}
 use Rattle.wx_host_slot.proofs.StandsLater.{pipes_program, runs_by}

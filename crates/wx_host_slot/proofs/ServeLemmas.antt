@@ -1,5 +1,5 @@
 -- What a slot's turns come to over a broker. Every list of entries has the newest first.
-use Rattle.std.proofs.Common.{◌≡◌, ℕ, ◌+◌, ◌<◌, ◌≤◌, List, [], ◌∷◌, Bool, true, false, not, ◌&&◌, Option, Some, None, refl, ap, ◌∙◌, sym, subst, arith}
+use Rattle.std.proofs.Common.{◌≡◌, ℕ, ◌+◌, ◌<◌, ◌≤◌, List, [], ◌∷◌, Bool, true, false, not, ◌&&◌, Option, Some, None, ◌⊎◌, inl, inr, refl, ap, ◌∙◌, sym, subst, arith}
 use Rattle.std.specs.Prelude.{reverse, is_some, IsSome, Result, Ok, Err, IfOk, OnOk}
 use Rattle.std.proofs.lemmas.Bool.{true≢false}
 use Rattle.std.proofs.lemmas.List.{reverse-append}
@@ -20,15 +20,19 @@ use Rattle.wx_broker.specs.State.{BrokerState}
 use Rattle.wx_broker.specs.Steps.{Appends}
 use Rattle.wx_outside.specs.Causes.{Rose}
 use Rattle.wx_host_launch.specs.Pipes.{InState, OutState}
-use Rattle.wx_host_launch.specs.Records.{Program, Writing, StarterState, starting, AreFresh}
+use Rattle.wx_host_launch.specs.Records.{Program, Writing, StarterState, starting, Starts, AreFresh}
+use Rattle.wx_host_launch.specs.declared.starter.StartFault.{StartFault}
+use Rattle.wx_host_launch.specs.declared.starter.StartFault.TheVariants as start
 use Rattle.wx_host_launch.specs.Steps.{past_of}
 use Rattle.wx_host_launch.specs.Turns.{IsInTurn, IsOutTurn}
+use Rattle.wx_host_launch.specs.declared.turns.InTurn.{InTurn}
 use Rattle.wx_host_launch.specs.declared.turns.InTurn.TheVariants as into
+use Rattle.wx_host_launch.specs.declared.turns.OutTurn.{OutTurn}
 use Rattle.wx_host_launch.specs.declared.turns.OutTurn.TheVariants as out
 use Rattle.wx_host_slot.specs.BrokerDesks.{desk_over}
 use Rattle.wx_host_slot.specs.Journals.{program_of}
 use Rattle.wx_host_slot.specs.Slots.{ChildState, SlotState, SlotView, slot_of, StandsRunning, StandsAs, waiting, running, over, Stands, turns_left, CameTo, IsServed, IsStarted, HasSpoken}
-use Rattle.wx_host_slot.specs.Turns.{HostTurn, rested}
+use Rattle.wx_host_slot.specs.Turns.{HostTurn}
 use Rattle.wx_host_slot.specs.declared.slot.Served.{Served}
 use Rattle.wx_host_slot.specs.declared.slot.Served.TheVariants.{Moved, Rested}
 use Rattle.wx_host_slot.proofs.JournalLemmas.{own}
@@ -131,6 +135,40 @@ serves_ended writing h old new slot child lent input t legal turn =
     served_over writing old.world past h slot (behind_turn slot (with_input child input) 2 true) new lent Moved
     (in_ended writing old.world past h slot child (desk_over h old None) (desk_over h new lent) input (at_first h old None) (legal_over h old.world new lent legal) t.stands t.runs t.room turn)
 
+-- A turn of the output
+
+spoken_over : (writing : Option Writing) (world : WorldLists) (past : List Entry) (h : HostNo) (slot after : SlotState) (broker : BrokerState) (lent : Option EntryNo) → Speaks writing world h past slot after (desk_over h broker lent) → HasSpoken writing world h past (reverse broker.entries) slot after
+spoken_over writing world past h slot after broker lent l =
+    let S : List Entry → Type 0 = λ now. HasSpoken writing world h past now slot after in
+    subst S (sym (one_past h h world l.now (reverse broker.entries) (desk_over h broker lent) l.at refl)) l.spoken
+
+pub speaks_moved : (writing : Option Writing) (h : HostNo) (old new : BrokerState) (slot : SlotState) (child : ChildState) (lent : Option EntryNo) (output : OutState) (reader : Unfinished) → TakesTurn writing h old slot child → reader.limit ≡ LONGEST_SAID → IsOutTurn (desk_over h old None) (desk_over h new lent) child.reader reader child.output output out.Moved
+    → HasSpoken writing old.world h (reverse old.entries) (reverse new.entries) slot (after_turn slot (with_output child output reader) 1)
+speaks_moved writing h old new slot child lent output reader t limit turn =
+    let past = reverse old.entries in
+    let S : Bool → Type 0 = λ b. HasSpoken writing old.world h past (reverse new.entries) slot (behind_turn slot (with_output child output reader) 1 b) in
+    subst S (sym t.runs.unended) (spoken_over writing old.world past h slot (behind_turn slot (with_output child output reader) 1 false) new lent
+    (out_moved writing old.world past h slot child (desk_over h old None) (desk_over h new lent) output reader (at_first h old None) t.stands t.runs t.room limit turn))
+
+pub speaks_ended : (writing : Option Writing) (h : HostNo) (old new : BrokerState) (slot : SlotState) (child : ChildState) (lent : Option EntryNo) (output : OutState) (reader : Unfinished) → TakesTurn writing h old slot child → IsOutTurn (desk_over h old None) (desk_over h new lent) child.reader reader child.output output out.Ended
+    → HasSpoken writing old.world h (reverse old.entries) (reverse new.entries) slot (behind_turn slot (with_output child output reader) 1 true)
+speaks_ended writing h old new slot child lent output reader t turn =
+    let past = reverse old.entries in
+    spoken_over writing old.world past h slot (behind_turn slot (with_output child output reader) 1 true) new lent
+    (out_ended writing old.world past h slot child (desk_over h old None) (desk_over h new lent) output reader (at_first h old None) t.stands t.runs t.room turn)
+
+pub speaks_never_waits : (writing : Option Writing) (h : HostNo) (old new : BrokerState) (slot : SlotState) (child : ChildState) (lent : Option EntryNo) (output : OutState) (reader : Unfinished) → TakesTurn writing h old slot child → is_host_ready (reverse old.entries) h ≡ false → ¬ IsOutTurn (desk_over h old None) (desk_over h new lent) child.reader reader child.output output out.Waits
+speaks_never_waits writing h old new slot child lent output reader t ready turn =
+    never_waits h old.world (reverse old.entries) (desk_over h old None) (desk_over h new lent) child.reader reader child.output output (at_first h old None) ready t.runs.not_over turn
+
+-- A slot by its fields
+
+abbrev pub slot_kept : {P : Type 0} → P → Option ChildState → ℕ → Bool → SlotView P
+slot_kept starter child made ended = record { starter = starter; child = child; made = made; ended = ended }
+
+pub ended_as : {P : Type 0} (was slot : SlotView P) (b : Bool) → was ≡ slot → was.ended ≡ b → slot.ended ≡ b
+ended_as {P} was slot b same is = ap (λ (v : SlotView P). v.ended) (sym same) ∙ is
+
 -- Putting a child back
 
 -- the slot with its child put back, and more entries made
@@ -157,6 +195,83 @@ takes_turn {P} state h broker was slot child same has s unended room = record {
   room = room;
 }
 
+-- What a turn of the slot comes to
+
+-- it took and goes on
+pub taken_on : {P : Type 0} (state : P → StarterState) (h : HostNo) (old new : BrokerState) (was slot : SlotView P) (child next : ChildState) (came : InTurn) → was ≡ slot → was.child ≡ Some child → Stands (state slot.starter).writing old.world (reverse old.entries) h (slot_of state slot) → slot.ended ≡ false → slot.made < 65536 → IsLegal old.world new.entries
+    → (lent : Option EntryNo) × IsInTurn (desk_over h old None) (desk_over h new lent) child.input next.input came → next ≡ with_input child next.input → (came ≡ into.Moved) ⊎ (came ≡ into.Closed)
+    → IsServed (state slot.starter).writing old.world h (reverse old.entries) (reverse new.entries) (slot_of state slot) (slot_of state (record { starter = was.starter; child = Some next; made = was.made + 1; ended = was.ended })) Moved
+taken_on {P} state h old new was slot child next came same has s unended room legal (lent, turn) next_is is =
+    let writing = (state slot.starter).writing in
+    let before = takes_turn state h old was slot child same has s unended room in
+    let T : InTurn → Type 0 = IsInTurn (desk_over h old None) (desk_over h new lent) child.input next.input in
+    let S : SlotState → Type 0 = λ after. IsServed writing old.world h (reverse old.entries) (reverse new.entries) (slot_of state slot) after Moved in
+    let N : ChildState → Type 0 = λ c. S (after_turn (slot_of state slot) c 1) in
+    put_back state was slot next 1 S same (subst N (sym next_is) (elim is [
+      | inl moved ↦ serves_moved writing h old new (slot_of state slot) child lent next.input before legal (subst T moved turn)
+      | inr closed ↦ serves_closed writing h old new (slot_of state slot) child lent next.input before (subst T closed turn)
+    ]))
+
+-- it had nothing new to take
+pub taken_none : {P : Type 0} (state : P → StarterState) (h : HostNo) (old new : BrokerState) (was slot : SlotView P) (child next : ChildState) (came : InTurn) → was ≡ slot → was.child ≡ Some child → Stands (state slot.starter).writing old.world (reverse old.entries) h (slot_of state slot) → slot.ended ≡ false → slot.made < 65536
+    → (lent : Option EntryNo) × IsInTurn (desk_over h old None) (desk_over h new lent) child.input next.input came → next ≡ with_input child next.input → came ≡ into.Waits
+    → IsServed (state slot.starter).writing old.world h (reverse old.entries) (reverse new.entries) (slot_of state slot) (slot_of state (record { starter = was.starter; child = Some next; made = was.made; ended = was.ended })) Rested
+taken_none {P} state h old new was slot child next came same has s unended room (lent, turn) next_is is =
+    let writing = (state slot.starter).writing in
+    let before = takes_turn state h old was slot child same has s unended room in
+    let T : InTurn → Type 0 = IsInTurn (desk_over h old None) (desk_over h new lent) child.input next.input in
+    let S : SlotState → Type 0 = λ after. IsServed writing old.world h (reverse old.entries) (reverse new.entries) (slot_of state slot) after Rested in
+    let N : ChildState → Type 0 = λ c. S (record (slot_of state slot) { child = Some c }) in
+    put_back_only state was slot next S same (subst N (sym next_is) (serves_waits writing h old new (slot_of state slot) child lent next.input before (subst T is turn)))
+
+-- it took and could not be written to
+pub taken_last : {P : Type 0} (state : P → StarterState) (h : HostNo) (old new : BrokerState) (was slot : SlotView P) (child next : ChildState) (came : InTurn) → was ≡ slot → was.child ≡ Some child → Stands (state slot.starter).writing old.world (reverse old.entries) h (slot_of state slot) → slot.ended ≡ false → slot.made < 65536 → IsLegal old.world new.entries
+    → (lent : Option EntryNo) × IsInTurn (desk_over h old None) (desk_over h new lent) child.input next.input came → next ≡ with_input child next.input → came ≡ into.Ended
+    → IsServed (state slot.starter).writing old.world h (reverse old.entries) (reverse new.entries) (slot_of state slot) (slot_of state (record { starter = was.starter; child = Some next; made = was.made + 2; ended = true })) Moved
+taken_last {P} state h old new was slot child next came same has s unended room legal (lent, turn) next_is is =
+    let writing = (state slot.starter).writing in
+    let before = takes_turn state h old was slot child same has s unended room in
+    let T : InTurn → Type 0 = IsInTurn (desk_over h old None) (desk_over h new lent) child.input next.input in
+    let S : SlotState → Type 0 = λ after. IsServed writing old.world h (reverse old.entries) (reverse new.entries) (slot_of state slot) after Moved in
+    let N : ChildState → Type 0 = λ c. S (behind_turn (slot_of state slot) c 2 true) in
+    put_back_ended state was slot next 2 S same (subst N (sym next_is) (serves_ended writing h old new (slot_of state slot) child lent next.input before legal (subst T is turn)))
+
+-- it said a text
+pub heard_on : {P : Type 0} (state : P → StarterState) (h : HostNo) (old new : BrokerState) (was slot : SlotView P) (child next : ChildState) (came : OutTurn) → was ≡ slot → was.child ≡ Some child → Stands (state slot.starter).writing old.world (reverse old.entries) h (slot_of state slot) → slot.ended ≡ false → slot.made < 65536 → next.reader.limit ≡ LONGEST_SAID
+    → (lent : Option EntryNo) × IsOutTurn (desk_over h old None) (desk_over h new lent) child.reader next.reader child.output next.output came → next ≡ with_output child next.output next.reader → came ≡ out.Moved
+    → HasSpoken (state slot.starter).writing old.world h (reverse old.entries) (reverse new.entries) (slot_of state slot) (slot_of state (record { starter = was.starter; child = Some next; made = was.made + 1; ended = was.ended }))
+heard_on {P} state h old new was slot child next came same has s unended room limit (lent, turn) next_is is =
+    let writing = (state slot.starter).writing in
+    let before = takes_turn state h old was slot child same has s unended room in
+    let T : OutTurn → Type 0 = IsOutTurn (desk_over h old None) (desk_over h new lent) child.reader next.reader child.output next.output in
+    let S : SlotState → Type 0 = HasSpoken writing old.world h (reverse old.entries) (reverse new.entries) (slot_of state slot) in
+    let N : ChildState → Type 0 = λ c. S (after_turn (slot_of state slot) c 1) in
+    put_back state was slot next 1 S same (subst N (sym next_is) (speaks_moved writing h old new (slot_of state slot) child lent next.output next.reader before limit (subst T is turn)))
+
+-- it ended
+pub heard_last : {P : Type 0} (state : P → StarterState) (h : HostNo) (old new : BrokerState) (was slot : SlotView P) (child next : ChildState) (came : OutTurn) → was ≡ slot → was.child ≡ Some child → Stands (state slot.starter).writing old.world (reverse old.entries) h (slot_of state slot) → slot.ended ≡ false → slot.made < 65536
+    → (lent : Option EntryNo) × IsOutTurn (desk_over h old None) (desk_over h new lent) child.reader next.reader child.output next.output came → next ≡ with_output child next.output next.reader → came ≡ out.Ended
+    → HasSpoken (state slot.starter).writing old.world h (reverse old.entries) (reverse new.entries) (slot_of state slot) (slot_of state (record { starter = was.starter; child = Some next; made = was.made + 1; ended = true }))
+heard_last {P} state h old new was slot child next came same has s unended room (lent, turn) next_is is =
+    let writing = (state slot.starter).writing in
+    let before = takes_turn state h old was slot child same has s unended room in
+    let T : OutTurn → Type 0 = IsOutTurn (desk_over h old None) (desk_over h new lent) child.reader next.reader child.output next.output in
+    let S : SlotState → Type 0 = HasSpoken writing old.world h (reverse old.entries) (reverse new.entries) (slot_of state slot) in
+    let N : ChildState → Type 0 = λ c. S (behind_turn (slot_of state slot) c 1 true) in
+    put_back_ended state was slot next 1 S same (subst N (sym next_is) (speaks_ended writing h old new (slot_of state slot) child lent next.output next.reader before (subst T is turn)))
+
+-- it doesn't wait
+pub heard_never : {P : Type 0} (state : P → StarterState) (h : HostNo) (old new : BrokerState) (was slot : SlotView P) (child next : ChildState) (came : OutTurn) → was ≡ slot → was.child ≡ Some child → Stands (state slot.starter).writing old.world (reverse old.entries) h (slot_of state slot) → slot.ended ≡ false → slot.made < 65536 → is_host_ready (reverse old.entries) h ≡ false
+    → (lent : Option EntryNo) × IsOutTurn (desk_over h old None) (desk_over h new lent) child.reader next.reader child.output next.output came → came ≡ out.Waits → ⊥
+heard_never {P} state h old new was slot child next came same has s unended room ready (lent, turn) is =
+    let before = takes_turn state h old was slot child same has s unended room in
+    let T : OutTurn → Type 0 = IsOutTurn (desk_over h old None) (desk_over h new lent) child.reader next.reader child.output next.output in
+    speaks_never_waits (state slot.starter).writing h old new (slot_of state slot) child lent next.output next.reader before ready (subst T is turn)
+
+-- the limit of its child's reader
+pub reader_limit : {P : Type 0} (state : P → StarterState) (h : HostNo) (broker : BrokerState) (was slot : SlotView P) (child : ChildState) → was ≡ slot → was.child ≡ Some child → Stands (state slot.starter).writing broker.world (reverse broker.entries) h (slot_of state slot) → slot.ended ≡ false → slot.made < 65536 → child.reader.limit ≡ LONGEST_SAID
+reader_limit {P} state h broker was slot child same has s unended room = (takes_turn state h broker was slot child same has s unended room).runs.runs.limit
+
 -- A start
 
 some_of : {A : Type 0} (o : Option A) → IsSome o → (x : A) × (o ≡ Some x)
@@ -179,6 +294,11 @@ starts_child {P} state h broker was slot starter input output reader same s unen
     let V : SlotView P → Type 0 = λ v. G (record { starter = starting (state v.starter) p.path p.arguments n; child = Some child; made = v.made; ended = v.ended }) in
     let T : StarterState → Type 0 = λ t. G (record { starter = t; child = Some child; made = was.made; ended = was.ended }) in
     subst T (sym left) (subst V (sym same) base)
+
+pub failed_starts : (old new : StarterState) (path : List ℕ) (arguments : List (List ℕ)) (fault : StartFault) → fault ≡ start.Failed → Starts {T = Unit {0}} old new path arguments (Err fault) → (n : ℕ) × Rose old.slot.failed_starts n × (new ≡ starting old path arguments n)
+failed_starts old new path arguments fault is h =
+    let F : StartFault → Type 0 = λ f. Starts {T = Unit {0}} old new path arguments (Err f) in
+    subst F is h
 
 pub starts_none : {P : Type 0} (state : P → StarterState) (h : HostNo) (broker new : BrokerState) (was slot : SlotView P) (starter : P) (a : Answer) → was ≡ slot → Stands (state slot.starter).writing broker.world (reverse broker.entries) h (slot_of state slot) → slot.ended ≡ false → slot.child ≡ None → IsSome (program_of broker.world (reverse broker.entries) h)
     → ((p : Program) → program_of broker.world (reverse broker.entries) h ≡ Some p → (n : ℕ) × Rose (state was.starter).slot.failed_starts n × (state starter ≡ starting (state was.starter) p.path p.arguments n)) → Appends broker new (ByHost h) (HostEnded StartFailed) a
@@ -220,6 +340,11 @@ came_less h b c mid new Rested most came first =
     let left : turns_left new ≡ turns_left mid = ap turns_left same in
     omega (arith, left, first)
 
+pub stands_after : (writing : Option Writing) (world other : WorldLists) (past : List Entry) (h : HostNo) (slot : SlotState) → other ≡ world → Stands writing world past h slot → Stands slot.starter.writing other past h slot
+stands_after writing world other past h slot same s =
+    let W : WorldLists → Type 0 = λ w. Stands slot.starter.writing w past h slot in
+    subst W (sym same) (own_writing writing world past h slot s)
+
 pub served_behind : (writing : Option Writing) (world : WorldLists) (h : HostNo) (a b c : List Entry) (slot mid new : SlotState) (came : Served) → IsStarted writing world h a b slot mid → mid.ended ≡ false → IsServed writing world h b c mid new came → IsServed writing world h a c slot new Moved
 served_behind writing world h a b c slot mid new came s unended served =
     let (same, none) = s.no_entry unended in
@@ -231,28 +356,9 @@ served_behind writing world h a b c slot mid new came s unended served =
       came = came_less h b c mid new came (turns_left slot) served.came s.less;
     }
 
--- A turn of the output
-
-spoken_over : (writing : Option Writing) (world : WorldLists) (past : List Entry) (h : HostNo) (slot after : SlotState) (broker : BrokerState) (lent : Option EntryNo) → Speaks writing world h past slot after (desk_over h broker lent) → HasSpoken writing world h past (reverse broker.entries) slot after
-spoken_over writing world past h slot after broker lent l =
-    let S : List Entry → Type 0 = λ now. HasSpoken writing world h past now slot after in
-    subst S (sym (one_past h h world l.now (reverse broker.entries) (desk_over h broker lent) l.at refl)) l.spoken
-
-pub speaks_moved : (writing : Option Writing) (h : HostNo) (old new : BrokerState) (slot : SlotState) (child : ChildState) (lent : Option EntryNo) (output : OutState) (reader : Unfinished) → TakesTurn writing h old slot child → reader.limit ≡ LONGEST_SAID → IsOutTurn (desk_over h old None) (desk_over h new lent) child.reader reader child.output output out.Moved
-    → HasSpoken writing old.world h (reverse old.entries) (reverse new.entries) slot (after_turn slot (with_output child output reader) 1)
-speaks_moved writing h old new slot child lent output reader t limit turn =
-    let past = reverse old.entries in
-    let S : Bool → Type 0 = λ b. HasSpoken writing old.world h past (reverse new.entries) slot (behind_turn slot (with_output child output reader) 1 b) in
-    subst S (sym t.runs.unended) (spoken_over writing old.world past h slot (behind_turn slot (with_output child output reader) 1 false) new lent
-    (out_moved writing old.world past h slot child (desk_over h old None) (desk_over h new lent) output reader (at_first h old None) t.stands t.runs t.room limit turn))
-
-pub speaks_ended : (writing : Option Writing) (h : HostNo) (old new : BrokerState) (slot : SlotState) (child : ChildState) (lent : Option EntryNo) (output : OutState) (reader : Unfinished) → TakesTurn writing h old slot child → IsOutTurn (desk_over h old None) (desk_over h new lent) child.reader reader child.output output out.Ended
-    → HasSpoken writing old.world h (reverse old.entries) (reverse new.entries) slot (behind_turn slot (with_output child output reader) 1 true)
-speaks_ended writing h old new slot child lent output reader t turn =
-    let past = reverse old.entries in
-    spoken_over writing old.world past h slot (behind_turn slot (with_output child output reader) 1 true) new lent
-    (out_ended writing old.world past h slot child (desk_over h old None) (desk_over h new lent) output reader (at_first h old None) t.stands t.runs t.room turn)
-
-pub speaks_never_waits : (writing : Option Writing) (h : HostNo) (old new : BrokerState) (slot : SlotState) (child : ChildState) (lent : Option EntryNo) (output : OutState) (reader : Unfinished) → TakesTurn writing h old slot child → is_host_ready (reverse old.entries) h ≡ false → ¬ IsOutTurn (desk_over h old None) (desk_over h new lent) child.reader reader child.output output out.Waits
-speaks_never_waits writing h old new slot child lent output reader t ready turn =
-    never_waits h old.world (reverse old.entries) (desk_over h old None) (desk_over h new lent) child.reader reader child.output output (at_first h old None) ready t.runs.not_over turn
+-- the same, told by what the starter tells behind the start
+pub served_again : (writing : Option Writing) (world other : WorldLists) (h : HostNo) (a b c : List Entry) (slot mid new : SlotState) (came : Served) → IsStarted writing world h a b slot mid → other ≡ world → mid.ended ≡ false → IsServed mid.starter.writing other h b c mid new came → IsServed writing world h a c slot new Moved
+served_again writing world other h a b c slot mid new came s same unended served =
+    let W : Option Writing → Type 0 = λ w. IsServed w world h b c mid new came in
+    let O : WorldLists → Type 0 = λ o. IsServed mid.starter.writing o h b c mid new came in
+    served_behind writing world h a b c slot mid new came s unended (subst W s.stands.same_writing (subst O same served))

@@ -1,6 +1,6 @@
 -- How a slot stands behind an entry of others, at a run's end and at its start. Every list of entries has the newest first.
-use Rattle.std.proofs.Common.{◌≡◌, ℕ, ◌<◌, List, [], ◌∷◌, ◌++◌, length, Bool, true, false, Option, Some, None, refl, ap, ◌∙◌, sym, subst, arith}
-use Rattle.std.proofs.lemmas.Bool.{false≢true, true≢false}
+use Rattle.std.proofs.Common.{◌≡◌, ℕ, ◌<◌, List, [], ◌∷◌, ◌++◌, length, true, false, Option, Some, None, refl, ap, ◌∙◌, sym, subst, arith}
+use Rattle.std.proofs.lemmas.Bool.{true≢false}
 use Rattle.std.proofs.lemmas.List.{append-nil}
 use Rattle.wx_id.specs.declared.numbers.HostNo.{HostNo}
 use Rattle.wx_external.specs.World.{WorldLists}
@@ -18,7 +18,7 @@ use Rattle.wx_host_launch.specs.Records.{Program, Account, HostRecord, Writing, 
 use Rattle.wx_host_slot.specs.Journals.{entries_of, taken_by, said_by, EachOf, IsInPlace, program_of}
 use Rattle.wx_host_slot.specs.Meets.{IsHeard, ToldEnd, CountedEnd, MeetsAccount, Told, MeetsStarted, Meets, was_started, never_started}
 use Rattle.wx_host_slot.specs.Slots.{ChildState, SlotState, waiting_slot, record_behind, closing_record, PipesTold, Runs, IsStartedRecord, StandsRunning, StandsAs, waiting, running, over, Stands}
-use Rattle.wx_host_slot.proofs.JournalLemmas.{each_map, each_unended, entries_others, taken_others, said_others, ended_others, each_others, none_ended, program_later}
+use Rattle.wx_host_slot.proofs.JournalLemmas.{each_unended, entries_others, taken_others, said_others, ended_others, each_others, none_ended, program_later}
 
 -- Where a child's pipe tells, its program is known
 

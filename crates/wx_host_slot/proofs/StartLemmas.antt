@@ -1,5 +1,5 @@
 -- What the start of a host's program comes to. Every list of entries has the newest first.
-use Rattle.std.proofs.Common.{◌≡◌, ℕ, ◌+◌, ◌<◌, ◌≤◌, List, [], ◌∷◌, ◌++◌, Bool, true, false, not, Option, Some, None, refl, ap, ◌∙◌, sym, subst, arith}
+use Rattle.std.proofs.Common.{◌≡◌, ℕ, ◌+◌, ◌<◌, List, [], ◌∷◌, Bool, true, false, Option, Some, None, refl, ap, ◌∙◌, sym, subst, arith}
 use Rattle.std.specs.Prelude.{IsSome, is_some, slice_get, if◌then◌else◌}
 use Rattle.std.specs.Option.{option_map}
 use Rattle.std.proofs.lemmas.Bool.{false≢true, true≢false}
@@ -9,11 +9,10 @@ use Rattle.wx_context.specs.declared.contexts.Context.{Context}
 use Rattle.wx_context.specs.declared.contexts.Context.TheVariants.{Page, Content, Web}
 use Rattle.wx_external.specs.declared.native.NativeVerdict.{NativeVerdict}
 use Rattle.wx_external.specs.declared.native.NativeVerdict.TheVariants as native
-use Rattle.wx_external.specs.Gate.{native_gate_of, verdict_at, admits_caller, has_permission}
-use Rattle.wx_external.specs.World.{WorldLists, manifest_of, host_place}
+use Rattle.wx_external.specs.Gate.{native_gate_of, verdict_at, admits_caller}
+use Rattle.wx_external.specs.World.{WorldLists, host_place}
 use Rattle.wx_host_manifest.specs.HostManifests.{Host, arguments_of}
 use Rattle.wx_native_frame.specs.Frames.{Unfinished}
-use Rattle.wx_native_frame.specs.Splits.{AllFit}
 use Rattle.wx_machine.specs.declared.entries.Call.TheVariants.{HostEnded}
 use Rattle.wx_machine.specs.declared.entries.Reason.TheVariants.{StartFailed}
 use Rattle.wx_machine.specs.declared.entries.Answer.{Answer}
@@ -21,16 +20,15 @@ use Rattle.wx_machine.specs.declared.entries.Entry.{Entry}
 use Rattle.wx_machine.specs.declared.entries.TheConstants.{LONGEST_SAID}
 use Rattle.wx_machine.specs.Contexts.{context_of, extension_of}
 use Rattle.wx_machine.specs.Hosts.{Start, hosts}
-use Rattle.wx_machine.specs.Texts.{has_ended}
 use Rattle.wx_broker.specs.declared.host_view.HostView.{HostView}
 use Rattle.wx_broker.specs.Views.{view_at, view_for, view_of, host_view}
 use Rattle.wx_outside.specs.Causes.{Rose}
 use Rattle.wx_host_launch.specs.Halves.{Sends, whole}
-use Rattle.wx_host_launch.specs.Pipes.{InState, OutState, Stream}
-use Rattle.wx_host_launch.specs.Records.{Program, Account, HostRecord, Writing, StarterState, empty_account, empty_record, started, starting, AreFresh}
+use Rattle.wx_host_launch.specs.Pipes.{InState, OutState}
+use Rattle.wx_host_launch.specs.Records.{Program, Account, HostRecord, Writing, empty_account, empty_record, started, starting, AreFresh}
 use Rattle.wx_host_slot.specs.Journals.{entries_of, taken_by, said_by, IsInPlace, program_at, program_of}
-use Rattle.wx_host_slot.specs.Meets.{IsHeard, MeetsAccount, Told, MeetsStarted}
-use Rattle.wx_host_slot.specs.Slots.{ChildState, SlotState, PipesTold, IsStartedRecord, Runs, StandsRunning, StandsAs, waiting, running, over, Stands, host_limit, left_with, turns_left, IsStarted}
+use Rattle.wx_host_slot.specs.Meets.{IsHeard, MeetsAccount, Told}
+use Rattle.wx_host_slot.specs.Slots.{ChildState, SlotState, PipesTold, IsStartedRecord, Runs, StandsAs, waiting, running, over, Stands, host_limit, left_with, turns_left, IsStarted}
 use Rattle.wx_host_slot.specs.Turns.{not_started}
 use Rattle.wx_host_slot.proofs.JournalLemmas.{own, none_ended, none_taken, none_said, none_each, entries_own, ended_own}
 use Rattle.wx_host_slot.proofs.StandsLater.{runs_by}

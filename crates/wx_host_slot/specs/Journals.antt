@@ -1,5 +1,5 @@
 -- What a journal says of one native host. Every list of entries has the newest first.
-use Rattle.std.specs.Prelude.{◌≡◌, ℕ, ◌+◌, List, [], ◌∷◌, ◌++◌, Bool, true, cond, Option, Some, None, slice_get, option_map}
+use Rattle.std.specs.Prelude.{◌≡◌, ℕ, ◌+◌, List, [], ◌∷◌, ◌++◌, true, cond, Option, Some, None, slice_get, option_map}
 use Rattle.wx_id.specs.declared.numbers.HostNo.{HostNo}
 use Rattle.wx_external.specs.World.{WorldLists}
 use Rattle.wx_host_manifest.specs.HostManifests.{Host, arguments_of}

@@ -10,7 +10,7 @@ use Rattle.wx_machine.specs.declared.entries.TheConstants.{LONGEST_SAID}
 use Rattle.wx_machine.specs.Answers.{is_host_ready}
 use Rattle.wx_machine.specs.Texts.{has_ended}
 use Rattle.wx_host_launch.specs.Pipes.{InState, OutState, Stream}
-use Rattle.wx_host_launch.specs.Records.{Program, HostRecord, Writing, StarterState, empty_account, empty_record, started, finished}
+use Rattle.wx_host_launch.specs.Records.{Program, HostRecord, Writing, StarterState, empty_account, empty_record, finished}
 use Rattle.wx_host_slot.specs.Journals.{entries_of, taken_by, said_by, EachOf, IsInPlace, program_of}
 use Rattle.wx_host_slot.specs.Meets.{MeetsStarted}
 use Rattle.wx_host_slot.specs.Turns.{HostTurn, SaysOrEnds}

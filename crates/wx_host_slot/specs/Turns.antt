@@ -1,5 +1,5 @@
 -- What a native host does in its part of a round. Every list of entries has the newest first.
-use Rattle.std.specs.Prelude.{◌≡◌, ℕ, List, ◌∷◌, Bool, true, false}
+use Rattle.std.specs.Prelude.{◌≡◌, ℕ, List, ◌∷◌, true, false}
 use Rattle.wx_id.specs.declared.numbers.HostNo.{HostNo}
 use Rattle.wx_machine.specs.declared.entries.Who.TheVariants.{Host as ByHost}
 use Rattle.wx_machine.specs.declared.entries.Call.{Call}
