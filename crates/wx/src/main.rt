@@ -6,6 +6,7 @@ use std::env;
 use std::io::ErrorKind;
 use std::process::ExitCode;
 use wx_cmd::wx;
+use wx_host_launch::MemoryStarter;
 use wx_outside::{FileShelf, Sink, StreamSink};
 use wx_status::Status;
 
@@ -28,8 +29,17 @@ fn main(rt: HostRuntime) -> ExitCode {
     let mut shelf = FileShelf::new(&rt);
     let mut out = StreamSink::new(rt.stdout());
     let mut err = StreamSink::new(rt.stderr());
+    // No program is started yet: without children each start fails.
+    let mut starter = MemoryStarter::new(rt.alloc(), &[], 0);
     let status = match words(&rt) {
-        Ok(words) => wx(rt.alloc(), &words, &mut shelf, &mut out, &mut err),
+        Ok(words) => wx(
+            rt.alloc(),
+            &words,
+            &mut shelf,
+            &mut starter,
+            &mut out,
+            &mut err,
+        ),
         Err(AllocError) => {
             let _ = err.write(b"wx: no memory\n");
             Status::NoMemory

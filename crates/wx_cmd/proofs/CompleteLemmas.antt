@@ -1,27 +1,23 @@
 -- Where nothing failed, the scene's manifests decide the verdict: that of a run, or of the first that is refused.
-use Rattle.std.proofs.Common.{◌≡◌, ◌∙◌, ℕ, List, [], ◌∷◌, Option, Some, refl, sym, ap, ap₂, subst, inl, inr}
+use Rattle.std.proofs.Common.{◌≡◌, ◌∙◌, ℕ, List, [], ◌∷◌, Option, Some, sym, ap, subst, inl, inr}
 use Rattle.std.specs.Prelude.{◌⊎◌, Result, Ok, Err}
-use Rattle.wx_outside.specs.Causes.{Rose}
 use Rattle.wx_outside.specs.Shelf.{Files, Content, Tells, content_at}
 use Rattle.wx_external.specs.World.{WorldLists}
 use Rattle.wx_script.specs.SceneValue.{SceneValue}
 use Rattle.wx_script.specs.declared.scene.SceneFault.{SceneFault}
-use Rattle.wx_world.specs.declared.faults.FileKind.{FileKind}
 use Rattle.wx_world.specs.declared.faults.FileRefusal.{FileRefusal}
 use Rattle.wx_world.specs.Files.{world_of}
 use Rattle.wx_world.specs.Reading.{IsWorldOf, IsFirstRefusal}
-use Rattle.wx_run.specs.declared.outcome.RunEnd.{RunEnd}
-use Rattle.wx_run.specs.declared.outcome.RunEnd.TheVariants as ends
 use Rattle.wx_status.specs.declared.status.Status.{Status}
 use Rattle.wx_status.specs.declared.status.Status.TheVariants as status
 use Rattle.wx_status.specs.Changes.{ShelfChange, SinkChange, HasFailed}
-use Rattle.wx_status.specs.Told.{LineTold, LinesTold, ToldRun}
-use Rattle.wx_words.specs.Words.{scene_named}
+use Rattle.wx_status.specs.Told.{LinesTold}
 use Rattle.wx_cmd.specs.Scenes.{scene_in, IsTextOfRun}
 use Rattle.wx_cmd.specs.Endings.{answer_by}
+use Rattle.wx_cmd.specs.Starters.{StarterChange}
 use Rattle.wx_cmd.specs.Verdict.{Verdict, read_fault, refused, manifest_refused, no_memory, ran}
 use Rattle.wx_cmd.specs.Told.{Told}
-use Rattle.wx_cmd.specs.Headline.{Found, Accepted, Judged, RunHeadline, RefusesManifest}
+use Rattle.wx_cmd.specs.Headline.{Found, Accepted, Judged, RunHeadline}
 use Rattle.wx_cmd.specs.Complete.{NothingFailed, AnswersRun, IsComplete, TellsManifest}
 
 -- what `one_world` ensures
@@ -67,7 +63,7 @@ told_answer : (answer : Status) (lines : List ℕ) (err : SinkChange) (result : 
 told_answer answer [] err result sound told = told.0
 told_answer answer (b ∷ lines) err result sound told = elim told [ inl h ↦ h.0 | inr h ↦ absurd (sound h.2) ]
 
-module _ (words : List (List ℕ)) (shelf : ShelfChange) (out err : SinkChange) (sound : NothingFailed words shelf out err) where
+module _ (words : List (List ℕ)) (shelf : ShelfChange) (starter : StarterChange) (out err : SinkChange) (sound : NothingFailed words shelf out err) where
   -- what was found is what the shelf has there
   content_is : (content : Content) → Found words shelf content → content ≡ content_at sound.files sound.file
   content_is content found =
@@ -87,17 +83,17 @@ module _ (words : List (List ℕ)) (shelf : ShelfChange) (out err : SinkChange) 
       law sound.files sound.scene refusal (subst (λ (f : Option Files). IsFirstRefusal f sound.scene refusal) sound.tells (subst (λ (s : SceneValue). IsFirstRefusal shelf.files s refusal) (scene_is scene accepted) is))
 
   -- no read failed, and the scene is not refused
-  no_read_fault : (file : List ℕ) → Judged words shelf (read_fault file) → ⊥
+  no_read_fault : (file : List ℕ) → Judged words shelf starter (read_fault file) → ⊥
   no_read_fault file (inl h) = sound.shelf_sound h.failed
   no_read_fault file (inr h) = sound.shelf_sound h.failed.failed
 
-  not_refused : (fault : SceneFault) → Judged words shelf (refused fault) → ⊥
+  not_refused : (fault : SceneFault) → Judged words shelf starter (refused fault) → ⊥
   not_refused fault judged =
       let both : is_fault fault ≡ is_scene sound.scene = sym judged.refusal ∙ ap scene_in (content_is judged.content judged.found) ∙ sound.accepted in
       cc
 
-  answers_run : WorldLaw → RefusalLaw → (world : WorldLists) → world_of sound.files sound.scene ≡ Ok world → (result : Status) (verdict : Verdict) → Judged words shelf verdict → Told verdict out err result
-      → AnswersRun world sound.scene result ⊎ (result ≡ status.NoMemory)
+  answers_run : WorldLaw → RefusalLaw → (world : WorldLists) → world_of sound.files sound.scene ≡ Ok world → (result : Status) (verdict : Verdict) → Judged words shelf starter verdict → Told verdict out err result
+      → AnswersRun world sound.scene starter result ⊎ (result ≡ status.NoMemory)
   answers_run world_law refusal_law world good result (read_fault file) judged told = absurd (no_read_fault file judged)
   answers_run world_law refusal_law world good result (refused fault) judged told = absurd (not_refused fault judged)
   answers_run world_law refusal_law world good result (manifest_refused refusal file) judged told =
@@ -106,14 +102,14 @@ module _ (words : List (List ℕ)) (shelf : ShelfChange) (out err : SinkChange) 
   answers_run world_law refusal_law world good result no_memory judged told = inr told.1.0
   answers_run world_law refusal_law world good result (ran end text lines) judged told =
       let same : judged.world ≡ world = ok_world judged.world world (sym (world_is world_law judged.scene judged.world judged.accepted judged.manifests) ∙ good) in
-      let run : IsTextOfRun world sound.scene end text lines =
-      subst (λ (w : WorldLists). IsTextOfRun w sound.scene end text lines) same (subst (λ (s : SceneValue). IsTextOfRun judged.world s end text lines) (scene_is judged.scene judged.accepted) judged.run) in
+      let run : IsTextOfRun world sound.scene starter end text lines =
+      subst (λ (w : WorldLists). IsTextOfRun w sound.scene starter end text lines) same (subst (λ (s : SceneValue). IsTextOfRun judged.world s starter end text lines) (scene_is judged.scene judged.accepted) judged.run) in
       elim told [
         | inl h ↦ inl (record { end = end; text = text; lines = lines; run = run; answered = told_answer (answer_by end) lines err result sound.err_sound h.1 })
         | inr h ↦ absurd (sound.out_sound h.2)
       ]
 
-  answers_refusal : WorldLaw → RefusalLaw → (refusal : FileRefusal) → world_of sound.files sound.scene ≡ Err refusal → (result : Status) (verdict : Verdict) → Judged words shelf verdict → Told verdict out err result
+  answers_refusal : WorldLaw → RefusalLaw → (refusal : FileRefusal) → world_of sound.files sound.scene ≡ Err refusal → (result : Status) (verdict : Verdict) → Judged words shelf starter verdict → Told verdict out err result
       → (result ≡ status.ManifestRefused refusal.file refusal.kind) ⊎ (result ≡ status.NoMemory)
   answers_refusal world_law refusal_law refusal first result (read_fault file) judged told = absurd (no_read_fault file judged)
   answers_refusal world_law refusal_law refusal first result (refused fault) judged told = absurd (not_refused fault judged)
@@ -128,10 +124,10 @@ module _ (words : List (List ℕ)) (shelf : ShelfChange) (out err : SinkChange) 
       let both : is_world judged.world ≡ is_refusal refusal = sym (world_is world_law judged.scene judged.world judged.accepted judged.manifests) ∙ first in
       absurd (cc)
 
-pub completes : WorldLaw → RefusalLaw → (words : List (List ℕ)) (shelf : ShelfChange) (out err : SinkChange) (result : Status) → RunHeadline words shelf out err result → IsComplete words shelf out err result
-completes world_law refusal_law words shelf out err result headline fine =
-    answers_run words shelf out err fine.sound world_law refusal_law fine.world fine.good result headline.verdict headline.judged headline.told
+pub completes : WorldLaw → RefusalLaw → (words : List (List ℕ)) (shelf : ShelfChange) (starter : StarterChange) (out err : SinkChange) (result : Status) → RunHeadline words shelf starter out err result → IsComplete words shelf starter out err result
+completes world_law refusal_law words shelf starter out err result headline fine =
+    answers_run words shelf starter out err fine.sound world_law refusal_law fine.world fine.good result headline.verdict headline.judged headline.told
 
-pub tells_manifest : WorldLaw → RefusalLaw → (words : List (List ℕ)) (shelf : ShelfChange) (out err : SinkChange) (result : Status) → RunHeadline words shelf out err result → TellsManifest words shelf out err result
-tells_manifest world_law refusal_law words shelf out err result headline wrong =
-    answers_refusal words shelf out err wrong.sound world_law refusal_law wrong.refusal wrong.first result headline.verdict headline.judged headline.told
+pub tells_manifest : WorldLaw → RefusalLaw → (words : List (List ℕ)) (shelf : ShelfChange) (starter : StarterChange) (out err : SinkChange) (result : Status) → RunHeadline words shelf starter out err result → TellsManifest words shelf out err result
+tells_manifest world_law refusal_law words shelf starter out err result headline wrong =
+    answers_refusal words shelf starter out err wrong.sound world_law refusal_law wrong.refusal wrong.first result headline.verdict headline.judged headline.told

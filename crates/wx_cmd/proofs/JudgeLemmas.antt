@@ -1,17 +1,43 @@
--- What a scene comes to whose manifests make no world.
-use Rattle.std.specs.Prelude.{Result, Ok, Err, IfOk}
+-- What a scene comes to whose manifests make no world, that the starter is not used for it, and what a verdict makes once it
+-- is told.
+use Rattle.std.proofs.Common.{inl, inr}
+use Rattle.std.specs.Prelude.{ℕ, List, ◌⊎◌, Result, Ok, Err, IfOk}
 use Rattle.wx_id.specs.declared.texts.NoMemory.{NoMemory}
 use Rattle.wx_script.specs.SceneValue.{SceneValue}
 use Rattle.wx_world.specs.declared.faults.WorldFault.{WorldFault}
 use Rattle.wx_world.specs.Reading.{HasCause}
-use Rattle.wx_status.specs.Changes.{ShelfChange}
+use Rattle.wx_status.specs.declared.status.Status.{Status}
+use Rattle.wx_status.specs.Changes.{ShelfChange, SinkChange}
 use Rattle.wx_cmd.specs.declared.tell.Verdict as code
 use Rattle.wx_cmd.specs.View.{verdict_view}
+use Rattle.wx_cmd.specs.Verdict.{Verdict, read_fault, refused, manifest_refused, no_memory, ran}
+use Rattle.wx_cmd.specs.Starters.{StarterChange, IsUnused, IsUnusedUnlessRun}
 use Rattle.wx_cmd.specs.Judging.{SceneComesTo}
+use Rattle.wx_cmd.specs.Told.{Told}
+use Rattle.wx_cmd.specs.Headline.{Judged, RunHeadline}
 
 -- a scene whose manifests make no world comes to what its fault is judged as
-pub fault_judged : (r : Result code.Verdict NoMemory) (scene : SceneValue) (shelf : ShelfChange) (fault : WorldFault)
-    → IfOk r (λ verdict. (change : ShelfChange) → HasCause change.files scene change.faults_before change.faults_after fault → SceneComesTo scene change (verdict_view verdict))
-    → HasCause shelf.files scene shelf.faults_before shelf.faults_after fault → IfOk r (λ verdict. SceneComesTo scene shelf (verdict_view verdict))
-fault_judged (Ok verdict) scene shelf fault comes cause = comes shelf cause
-fault_judged (Err e) scene shelf fault comes cause = tt
+pub fault_judged : (r : Result code.Verdict NoMemory) (scene : SceneValue) (shelf : ShelfChange) (starter : StarterChange) (fault : WorldFault)
+    → IfOk r (λ verdict. (change : ShelfChange) (used : StarterChange) → HasCause change.files scene change.faults_before change.faults_after fault → SceneComesTo scene change used (verdict_view verdict))
+    → HasCause shelf.files scene shelf.faults_before shelf.faults_after fault → IfOk r (λ verdict. SceneComesTo scene shelf starter (verdict_view verdict))
+fault_judged (Ok verdict) scene shelf starter fault comes cause = comes shelf starter cause
+fault_judged (Err e) scene shelf starter fault comes cause = tt
+
+-- an unused starter is unused whatever the verdict
+pub unused_by : (verdict : Verdict) (starter : StarterChange) → IsUnused starter → IsUnusedUnlessRun verdict starter
+unused_by (read_fault file) starter same = same
+unused_by (refused fault) starter same = same
+unused_by (manifest_refused refusal file) starter same = same
+unused_by no_memory starter same = tt
+unused_by (ran end text lines) starter same = tt
+
+-- the same of a call to which memory may be refused
+pub unused_in : (r : Result code.Verdict NoMemory) (starter : StarterChange) → IsUnused starter → IfOk r (λ verdict. IsUnusedUnlessRun (verdict_view verdict) starter)
+unused_in (Ok verdict) starter same = unused_by (verdict_view verdict) starter same
+unused_in (Err e) starter same = tt
+
+-- a verdict that has its cause was told, or want of memory in its place
+pub told_headline : (words : List (List ℕ)) (shelf : ShelfChange) (starter : StarterChange) (out err : SinkChange) (result : Status) (verdict : Verdict)
+    → Judged words shelf starter verdict → IsUnusedUnlessRun verdict starter → Told verdict out err result ⊎ Told no_memory out err result → RunHeadline words shelf starter out err result
+told_headline words shelf starter out err result verdict judged unused (inl told) = record { verdict = verdict; judged = judged; told = told; unused = unused }
+told_headline words shelf starter out err result verdict judged unused (inr told) = record { verdict = no_memory; judged = tt; told = told; unused = tt }

@@ -12,6 +12,7 @@ use Rattle.wx_words.specs.Words.{scene_named}
 use Rattle.wx_run.specs.declared.outcome.RunEnd.{RunEnd}
 use Rattle.wx_cmd.specs.Scenes.{scene_in, IsTextOfRun}
 use Rattle.wx_cmd.specs.Endings.{answer_by}
+use Rattle.wx_cmd.specs.Starters.{StarterChange}
 use Rattle.wx_status.specs.Changes.{ShelfChange, SinkChange, HasFailed}
 
 -- The words name a file, the shelf tells that a scene stands there, and nothing failed in the call.
@@ -39,17 +40,17 @@ pub record ManifestIsWrong (words : List (List ℕ)) (shelf : ShelfChange) (out 
   pub first : world_of sound.files sound.scene ≡ Err refusal
 
 -- The answer is that of a run of the scene in this world.
-pub record AnswersRun (world : WorldLists) (scene : SceneValue) (result : Status) : Type 0 where
+pub record AnswersRun (world : WorldLists) (scene : SceneValue) (starter : StarterChange) (result : Status) : Type 0 where
   pub end : RunEnd
   pub text : List ℕ
   pub lines : List ℕ
-  pub run : IsTextOfRun world scene end text lines
+  pub run : IsTextOfRun world scene starter end text lines
   pub answered : result ≡ answer_by end
 
 -- Where nothing is wrong, the answer is that of a run of the scene in the world of its manifests, unless memory was refused.
-abbrev pub IsComplete : List (List ℕ) → ShelfChange → SinkChange → SinkChange → Status → Type 0
-IsComplete words shelf out err result =
-    (fine : NothingIsWrong words shelf out err) → AnswersRun fine.world fine.sound.scene result ⊎ (result ≡ NoMemory)
+abbrev pub IsComplete : List (List ℕ) → ShelfChange → StarterChange → SinkChange → SinkChange → Status → Type 0
+IsComplete words shelf starter out err result =
+    (fine : NothingIsWrong words shelf out err) → AnswersRun fine.world fine.sound.scene starter result ⊎ (result ≡ NoMemory)
 
 -- Where a manifest is wrong, the answer is that the first such is refused, unless memory was refused.
 abbrev pub TellsManifest : List (List ℕ) → ShelfChange → SinkChange → SinkChange → Status → Type 0

@@ -17,6 +17,7 @@ use Rattle.wx_plain.specs.Headline.{PlainHeadline}
 use Rattle.wx_cmd.specs.Scenes.{scene_in, IsTextOfRun}
 use Rattle.wx_cmd.specs.Verdict.{Verdict, read_fault, refused, manifest_refused, no_memory, ran}
 use Rattle.wx_cmd.specs.Told.{Told}
+use Rattle.wx_cmd.specs.Starters.{StarterChange, IsUnusedUnlessRun}
 
 -- The words name a file, and this stands there, as far as the shelf tells.
 pub record Found (words : List (List ℕ)) (shelf : ShelfChange) (content : Content) : Type 0 where
@@ -57,36 +58,37 @@ pub record ManifestRefused (words : List (List ℕ)) (shelf : ShelfChange) (refu
   pub name : file ≡ name_at scene refusal.file
 
 -- What stands there is a scene, its manifests make a world, a run of the scene in that world comes to this end, the text is
--- its journal's, and the lines tell of the end.
-pub record Ran (words : List (List ℕ)) (shelf : ShelfChange) (end : RunEnd) (text lines : List ℕ) : Type 0 where
+-- its journal's, which the records of its hosts meet, and the lines tell of the end.
+pub record Ran (words : List (List ℕ)) (shelf : ShelfChange) (starter : StarterChange) (end : RunEnd) (text lines : List ℕ) : Type 0 where
   pub scene : SceneValue
   pub accepted : Accepted words shelf scene
   pub world : WorldLists
   pub manifests : IsWorldOf shelf.files scene world
-  pub run : IsTextOfRun world scene end text lines
+  pub run : IsTextOfRun world scene starter end text lines
 
 -- the cause of each verdict, of which want of memory alone has none
-abbrev pub Judged : List (List ℕ) → ShelfChange → Verdict → Type 0
-Judged words shelf (read_fault file) = SceneReadFailed words shelf file ⊎ ManifestReadFailed words shelf file
-Judged words shelf (refused fault) = Refused words shelf fault
-Judged words shelf (manifest_refused refusal file) = ManifestRefused words shelf refusal file
-Judged words shelf no_memory = Unit {0}
-Judged words shelf (ran end text lines) = Ran words shelf end text lines
+abbrev pub Judged : List (List ℕ) → ShelfChange → StarterChange → Verdict → Type 0
+Judged words shelf starter (read_fault file) = SceneReadFailed words shelf file ⊎ ManifestReadFailed words shelf file
+Judged words shelf starter (refused fault) = Refused words shelf fault
+Judged words shelf starter (manifest_refused refusal file) = ManifestRefused words shelf refusal file
+Judged words shelf starter no_memory = Unit {0}
+Judged words shelf starter (ran end text lines) = Ran words shelf starter end text lines
 
--- A call for a run has a verdict, which has its cause, and tells it.
-pub record RunHeadline (words : List (List ℕ)) (shelf : ShelfChange) (out err : SinkChange) (result : Status) : Type 0 where
+-- A call for a run has a verdict, which has its cause, and tells it; only a run uses the starter.
+pub record RunHeadline (words : List (List ℕ)) (shelf : ShelfChange) (starter : StarterChange) (out err : SinkChange) (result : Status) : Type 0 where
   pub verdict : Verdict
-  pub judged : Judged words shelf verdict
+  pub judged : Judged words shelf starter verdict
   pub told : Told verdict out err result
+  pub unused : IsUnusedUnlessRun verdict starter
 
 -- by the scene that the words name
-abbrev pub HeadlineOf : Option (List ℕ) → List (List ℕ) → ShelfChange → SinkChange → SinkChange → Status → Type 0
-HeadlineOf (Some scene) words shelf out err result = RunHeadline words shelf out err result
-HeadlineOf None words shelf out err result = PlainHeadline words shelf out err result
+abbrev pub HeadlineOf : Option (List ℕ) → List (List ℕ) → ShelfChange → StarterChange → SinkChange → SinkChange → Status → Type 0
+HeadlineOf (Some scene) words shelf starter out err result = RunHeadline words shelf starter out err result
+HeadlineOf None words shelf starter out err result = PlainHeadline words shelf out err result
 
 -- The words of a run have its headline, and all others that of the commands which make no run.
-abbrev pub Headline : List (List ℕ) → ShelfChange → SinkChange → SinkChange → Status → Type 0
-Headline words shelf out err result = HeadlineOf (scene_named words) words shelf out err result
+abbrev pub Headline : List (List ℕ) → ShelfChange → StarterChange → SinkChange → SinkChange → Status → Type 0
+Headline words shelf starter out err result = HeadlineOf (scene_named words) words shelf starter out err result
 
 -- A manifest is refused only where it is the first of the scene that is, and then nothing is written on `out`.
 pub record RefusesManifest (words : List (List ℕ)) (shelf : ShelfChange) (out : SinkChange) (file : ℕ) (kind : FileKind) : Type 0 where

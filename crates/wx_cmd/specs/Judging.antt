@@ -6,34 +6,35 @@ use Rattle.wx_script.specs.SceneValue.{SceneValue}
 use Rattle.wx_world.specs.Names.{name_at}
 use Rattle.wx_world.specs.Reading.{IsWorldOf, IsFirstRefusal, HasFailedAt}
 use Rattle.wx_status.specs.Changes.{ShelfChange}
+use Rattle.wx_cmd.specs.Starters.{StarterChange}
 use Rattle.wx_cmd.specs.Scenes.{scene_in, IsTextOfRun}
 use Rattle.wx_cmd.specs.Verdict.{Verdict, read_fault, refused, manifest_refused, no_memory, ran}
 
 -- a run of the scene in this world comes to its text
-abbrev pub IsRunJudged : WorldLists → SceneValue → Verdict → Type 0
-IsRunJudged world scene (ran end text lines) = IsTextOfRun world scene end text lines
-IsRunJudged world scene (read_fault file) = ⊥
-IsRunJudged world scene (refused fault) = ⊥
-IsRunJudged world scene (manifest_refused refusal file) = ⊥
-IsRunJudged world scene no_memory = ⊥
+abbrev pub IsRunJudged : WorldLists → SceneValue → StarterChange → Verdict → Type 0
+IsRunJudged world scene starter (ran end text lines) = IsTextOfRun world scene starter end text lines
+IsRunJudged world scene starter (read_fault file) = ⊥
+IsRunJudged world scene starter (refused fault) = ⊥
+IsRunJudged world scene starter (manifest_refused refusal file) = ⊥
+IsRunJudged world scene starter no_memory = ⊥
 
 -- a scene comes to the text of a run in the world of its files, to its first refused manifest, to a read of a manifest that
 -- failed, or to want of memory
-abbrev pub SceneComesTo : SceneValue → ShelfChange → Verdict → Type 0
-SceneComesTo scene shelf (ran end text lines) = (world : WorldLists) × IsWorldOf shelf.files scene world × IsTextOfRun world scene end text lines
-SceneComesTo scene shelf (manifest_refused refusal file) = IsFirstRefusal shelf.files scene refusal × (file ≡ name_at scene refusal.file)
-SceneComesTo scene shelf (read_fault file) =
+abbrev pub SceneComesTo : SceneValue → ShelfChange → StarterChange → Verdict → Type 0
+SceneComesTo scene shelf starter (ran end text lines) = (world : WorldLists) × IsWorldOf shelf.files scene world × IsTextOfRun world scene starter end text lines
+SceneComesTo scene shelf starter (manifest_refused refusal file) = IsFirstRefusal shelf.files scene refusal × (file ≡ name_at scene refusal.file)
+SceneComesTo scene shelf starter (read_fault file) =
     (place : ℕ) × HasFailedAt shelf.files scene shelf.faults_before shelf.faults_after place × (file ≡ name_at scene place)
-SceneComesTo scene shelf no_memory = Unit {0}
-SceneComesTo scene shelf (refused fault) = ⊥
+SceneComesTo scene shelf starter no_memory = Unit {0}
+SceneComesTo scene shelf starter (refused fault) = ⊥
 
 -- a content comes to what its scene comes to, or to a refusal
-abbrev pub ComesTo : Content → ShelfChange → Verdict → Type 0
-ComesTo content shelf (refused fault) = scene_in content ≡ Err fault
-ComesTo content shelf no_memory = Unit {0}
-ComesTo content shelf (ran end text lines) = (scene : SceneValue) × (scene_in content ≡ Ok scene) × SceneComesTo scene shelf (ran end text lines)
-ComesTo content shelf (manifest_refused refusal file) = (scene : SceneValue) × (scene_in content ≡ Ok scene) × SceneComesTo scene shelf (manifest_refused refusal file)
-ComesTo content shelf (read_fault file) = (scene : SceneValue) × (scene_in content ≡ Ok scene) × SceneComesTo scene shelf (read_fault file)
+abbrev pub ComesTo : Content → ShelfChange → StarterChange → Verdict → Type 0
+ComesTo content shelf starter (refused fault) = scene_in content ≡ Err fault
+ComesTo content shelf starter no_memory = Unit {0}
+ComesTo content shelf starter (ran end text lines) = (scene : SceneValue) × (scene_in content ≡ Ok scene) × SceneComesTo scene shelf starter (ran end text lines)
+ComesTo content shelf starter (manifest_refused refusal file) = (scene : SceneValue) × (scene_in content ≡ Ok scene) × SceneComesTo scene shelf starter (manifest_refused refusal file)
+ComesTo content shelf starter (read_fault file) = (scene : SceneValue) × (scene_in content ≡ Ok scene) × SceneComesTo scene shelf starter (read_fault file)
 
 -- this file could not be read, or memory was refused
 abbrev pub IsReadFault : List ℕ → Verdict → Type 0

@@ -1,6 +1,7 @@
 pub mod Verdict
 pub mod View
 pub mod Told
+pub mod Starters
 pub mod Scenes
 pub mod Endings
 pub mod Headline

@@ -1,5 +1,5 @@
 -- The scene that stands under a name, or why it is refused; and the text that a run of it leaves.
-use Rattle.std.specs.Prelude.{◌≡◌, ℕ, List, Result, Ok, Err, reverse}
+use Rattle.std.specs.Prelude.{◌≡◌, ℕ, List, Result, Err, reverse}
 use Rattle.wx_outside.specs.Shelf.{Content, present, absent, too_large}
 use Rattle.wx_external.specs.World.{WorldLists}
 use Rattle.wx_machine.specs.declared.entries.Entry.{Entry}
@@ -9,11 +9,14 @@ use Rattle.wx_journal.specs.Journal.{IsTextOfNoOther}
 use Rattle.wx_script.specs.declared.scene.SceneFault.{SceneFault}
 use Rattle.wx_script.specs.declared.scene.SceneKind.{SceneKind}
 use Rattle.wx_script.specs.declared.scene.SceneKind.TheVariants.{Missing, Large}
-use Rattle.wx_script.specs.SceneValue.{SceneValue}
+use Rattle.wx_script.specs.SceneValue.{SceneValue, scripts_of}
 use Rattle.wx_script.specs.Scene.{scene_of}
 use Rattle.wx_run.specs.declared.outcome.RunEnd.{RunEnd}
 use Rattle.wx_run.specs.Run.{IsRunOf}
+use Rattle.wx_run.specs.Rounds.{IsSpent}
+use Rattle.wx_run.specs.Hosts.{HaveRecords}
 use Rattle.wx_cmd.specs.Endings.{lines_of_end}
+use Rattle.wx_cmd.specs.Starters.{StarterChange}
 
 -- a fault that is in no line
 abbrev pub refusal : SceneKind → SceneFault
@@ -25,11 +28,13 @@ scene_in absent = Err (refusal Missing)
 scene_in too_large = Err (refusal Large)
 scene_in (present bytes) = scene_of bytes
 
--- A run of the scene in this world leaves a journal and comes to this end; the text is that journal's and no other's, and the
--- lines tell of the end.
-pub record IsTextOfRun (world : WorldLists) (scene : SceneValue) (end : RunEnd) (text lines : List ℕ) : Type 0 where
+-- A run of the scene in this world leaves a journal and comes to this end; each host's record meets the journal; the text is
+-- that journal's and no other's, and the lines tell of the end.
+pub record IsTextOfRun (world : WorldLists) (scene : SceneValue) (starter : StarterChange) (end : RunEnd) (text lines : List ℕ) : Type 0 where
   pub journal : List Entry
   pub run : IsRunOf world scene journal end
+  -- the starter took over one record for each host of the journal, in rising number, and each meets the journal
+  pub records : HaveRecords (IsSpent (scripts_of scene) (reverse journal)) world (reverse journal) starter.before starter.after
   pub text_of_run : text ≡ journal_text journal
   -- no other journal has this text
   pub fits : JournalFits journal

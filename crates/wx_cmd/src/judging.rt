@@ -6,6 +6,7 @@ ghost use Rattle.wx_words.specs.Words as forms;
 ghost use Rattle.wx_world.specs.Reading.{HasCause};
 ghost use Rattle.wx_status.specs.Changes.{ShelfChange};
 ghost use Rattle.wx_cmd.specs.View.{verdict_view};
+ghost use Rattle.wx_cmd.specs.Starters.{StarterChange, IsUnusedUnlessRun};
 ghost use Rattle.wx_cmd.specs.Scenes as scenes;
 ghost use Rattle.wx_cmd.specs.Judging.{ComesTo, SceneComesTo, IsRunJudged, IsReadFault};
 ghost use Rattle.wx_cmd.specs.Headline.{Judged};
@@ -14,6 +15,7 @@ use crate::endings::lines_of_end;
 use crate::tell::Verdict;
 use std::alloc::Global;
 use wx_external::World;
+use wx_host_launch::Starter;
 use wx_id::{NoMemory, Utf8Text};
 use wx_outside::{Found, Shelf, ShelfFault};
 use wx_run::run_scene;
@@ -21,10 +23,18 @@ use wx_script::{Scene, SceneFault, SceneKind, SceneReadFault};
 use wx_world::{WorldFault, name_at, read_world};
 
 /// What a run of the scene in this world comes to.
-fn judge_run(alloc: Global, scene: &Scene, world: World) -> Result<Verdict, NoMemory>
-    ensures { IfOk result (λ verdict. IsRunJudged world scene.now (verdict_view verdict)) }
+fn judge_run<P: Starter>(
+    alloc: Global,
+    scene: &Scene,
+    world: World,
+    starter: &mut P,
+) -> Result<Verdict, NoMemory>
+    ensures judged { IfOk result (λ verdict. IsRunJudged world scene.now
+        (record { before = P.state starter.old; after = P.state starter.new })
+        (verdict_view verdict)) }
+    ensures unused { IfOk result (λ verdict. IsUnusedUnlessRun (verdict_view verdict) (record { before = P.state starter.old; after = P.state starter.new })) }
 {
-    let outcome = run_scene(alloc, scene, world)?;
+    let outcome = run_scene(alloc, scene, world, starter)?;
     let text = outcome.journal.print(alloc)?;
     match lines_of_end(alloc, scene, &outcome.journal, outcome.end) {
         Ok(lines) => Ok(Verdict::Ran(outcome.end, text, lines)),
@@ -34,8 +44,8 @@ fn judge_run(alloc: Global, scene: &Scene, world: World) -> Result<Verdict, NoMe
 
 /// What a scene comes to whose manifests make no world.
 fn judge_fault(alloc: Global, scene: &Scene, fault: WorldFault) -> Result<Verdict, NoMemory>
-    ensures { IfOk result (λ verdict. (shelf : ShelfChange) → HasCause shelf.files scene.now shelf.faults_before shelf.faults_after fault
-        → SceneComesTo scene.now shelf (verdict_view verdict)) }
+    ensures { IfOk result (λ verdict. (shelf : ShelfChange) (starter : StarterChange) → HasCause shelf.files scene.now shelf.faults_before shelf.faults_after fault
+        → SceneComesTo scene.now shelf starter (verdict_view verdict)) }
 {
     match fault {
         WorldFault::Refused(refusal) => {
@@ -51,14 +61,21 @@ fn judge_fault(alloc: Global, scene: &Scene, fault: WorldFault) -> Result<Verdic
 }
 
 /// What a scene comes to: its manifests are read and judged, and then it is run.
-fn judge_scene<F: Shelf>(alloc: Global, scene: &Scene, shelf: &mut F) -> Result<Verdict, NoMemory>
+fn judge_scene<F: Shelf, P: Starter>(
+    alloc: Global,
+    scene: &Scene,
+    shelf: &mut F,
+    starter: &mut P,
+) -> Result<Verdict, NoMemory>
     ensures judged { IfOk result (λ verdict. SceneComesTo scene.now
         (record { files = F.files shelf.old; faults_before = F.faults shelf.old; faults_after = F.faults shelf.new })
+        (record { before = P.state starter.old; after = P.state starter.new })
         (verdict_view verdict)) }
+    ensures unused { IfOk result (λ verdict. IsUnusedUnlessRun (verdict_view verdict) (record { before = P.state starter.old; after = P.state starter.new })) }
     ensures unchanged { F.files shelf.new ≡ F.files shelf.old }
 {
     match read_world(alloc, scene, shelf) {
-        Ok(world) => judge_run(alloc, scene, world),
+        Ok(world) => judge_run(alloc, scene, world, starter),
         Err(fault) => judge_fault(alloc, scene, fault),
     }
 }
@@ -71,14 +88,21 @@ fn refusal(kind: SceneKind) -> SceneFault
 }
 
 /// What the bytes of a scene come to.
-fn judge_bytes<F: Shelf>(alloc: Global, bytes: &[u8], shelf: &mut F) -> Verdict
+fn judge_bytes<F: Shelf, P: Starter>(
+    alloc: Global,
+    bytes: &[u8],
+    shelf: &mut F,
+    starter: &mut P,
+) -> Verdict
     ensures judged { ComesTo (present bytes.now)
         (record { files = F.files shelf.old; faults_before = F.faults shelf.old; faults_after = F.faults shelf.new })
+        (record { before = P.state starter.old; after = P.state starter.new })
         (verdict_view result) }
+    ensures unused { IsUnusedUnlessRun (verdict_view result) (record { before = P.state starter.old; after = P.state starter.new }) }
     ensures unchanged { F.files shelf.new ≡ F.files shelf.old }
 {
     match Scene::read(alloc, bytes) {
-        Ok(scene) => match judge_scene(alloc, &scene, shelf) {
+        Ok(scene) => match judge_scene(alloc, &scene, shelf, starter) {
             Ok(verdict) => verdict,
             Err(NoMemory) => Verdict::NoMemory,
         },
@@ -88,14 +112,21 @@ fn judge_bytes<F: Shelf>(alloc: Global, bytes: &[u8], shelf: &mut F) -> Verdict
 }
 
 /// What was found under the scene's name comes to.
-fn judge_found<F: Shelf>(alloc: Global, found: Found, shelf: &mut F) -> Verdict
+fn judge_found<F: Shelf, P: Starter>(
+    alloc: Global,
+    found: Found,
+    shelf: &mut F,
+    starter: &mut P,
+) -> Verdict
     ensures judged { ComesTo (content found)
         (record { files = F.files shelf.old; faults_before = F.faults shelf.old; faults_after = F.faults shelf.new })
+        (record { before = P.state starter.old; after = P.state starter.new })
         (verdict_view result) }
+    ensures unused { IsUnusedUnlessRun (verdict_view result) (record { before = P.state starter.old; after = P.state starter.new }) }
     ensures unchanged { F.files shelf.new ≡ F.files shelf.old }
 {
     match found {
-        Found::Bytes(bytes) => judge_bytes(alloc, &bytes, shelf),
+        Found::Bytes(bytes) => judge_bytes(alloc, &bytes, shelf, starter),
         Found::Missing => Verdict::Refused(refusal(SceneKind::Missing)),
         Found::Large => Verdict::Refused(refusal(SceneKind::Large)),
     }
@@ -112,14 +143,21 @@ fn read_fault(alloc: Global, file: &str) -> Verdict
 }
 
 /// What the call answers for a run before it writes.
-pub fn judge<F: Shelf>(alloc: Global, scene: &str, shelf: &mut F) -> Verdict
+pub fn judge<F: Shelf, P: Starter>(
+    alloc: Global,
+    scene: &str,
+    shelf: &mut F,
+    starter: &mut P,
+) -> Verdict
     ensures judged { (words : List (List ℕ)) → forms.scene_named words ≡ Some scene.now → Judged words
         (record { files = F.files shelf.old; faults_before = F.faults shelf.old; faults_after = F.faults shelf.new })
+        (record { before = P.state starter.old; after = P.state starter.new })
         (verdict_view result) }
+    ensures unused { IsUnusedUnlessRun (verdict_view result) (record { before = P.state starter.old; after = P.state starter.new }) }
     ensures unchanged { F.files shelf.new ≡ F.files shelf.old }
 {
     match shelf.read(alloc, scene) {
-        Ok(found) => judge_found(alloc, found, shelf),
+        Ok(found) => judge_found(alloc, found, shelf, starter),
         Err(ShelfFault::Failed) => read_fault(alloc, scene),
         Err(ShelfFault::NoMemory) => Verdict::NoMemory,
     }

@@ -3,6 +3,8 @@
 
 mod endings;
 #[cfg(test)]
+mod helper_tests;
+#[cfg(test)]
 mod host_tests;
 mod judging;
 #[cfg(test)]

@@ -2,6 +2,7 @@ use crate::endings::lines_of_end;
 use crate::wx;
 use std::alloc::{AllocError, Global};
 use std::test::Fail;
+use wx_host_launch::{MemoryStarter, Starter};
 use wx_id::HostNo;
 use wx_journal::{Journal, JournalFault, JournalKind};
 use wx_match_pattern::{PatternFault, PatternKind};
@@ -39,11 +40,12 @@ pub(crate) fn sink_of(alloc: Global, room: usize) -> MemorySink {
     }
 }
 
-/// What a call with these words answers.
-pub(crate) fn answer(
+/// What a call with these words answers, over this starter.
+pub(crate) fn answer_over<P: Starter>(
     alloc: Global,
     words: &[&str],
     shelf: &mut MemoryShelf,
+    starter: &mut P,
     out: &mut MemorySink,
     err: &mut MemorySink,
 ) -> Result<Status, AllocError> {
@@ -51,7 +53,19 @@ pub(crate) fn answer(
     for word in words {
         owned.push(String::from_str(alloc, word)?)?;
     }
-    Ok(wx(alloc, &owned, shelf, out, err))
+    Ok(wx(alloc, &owned, shelf, starter, out, err))
+}
+
+/// What a call with these words answers where no program can be started.
+pub(crate) fn answer(
+    alloc: Global,
+    words: &[&str],
+    shelf: &mut MemoryShelf,
+    out: &mut MemorySink,
+    err: &mut MemorySink,
+) -> Result<Status, AllocError> {
+    let mut starter = MemoryStarter::new(alloc, &[], 0);
+    answer_over(alloc, words, shelf, &mut starter, out, err)
 }
 
 pub(crate) const RUN: [&str; 3] = ["run", "--rounds", "s"];
