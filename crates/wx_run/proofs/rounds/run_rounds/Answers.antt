@@ -61,7 +61,7 @@ loop-cursors-preserved g c =
     record {
       same_world = all.same_world ∙ c.loop-cursors.invariant.same_world;
       kept = keeps_on (slots_of g.P.Starter.state c.args.slots.now.items) (slots_of g.P.Starter.state c.loop-cursors.slots.items) (slots_of g.P.Starter.state c.next_round.new.slots.items)
-    (g.P.Starter.state c.args.starter.now) (g.P.Starter.state c.loop-cursors.starter) (g.P.Starter.state c.next_round.new.starter) c.loop-cursors.invariant.kept c.in_ok-next_round.ensures.kept;
+          (g.P.Starter.state c.args.starter.now) (g.P.Starter.state c.loop-cursors.starter) (g.P.Starter.state c.next_round.new.starter) c.loop-cursors.invariant.kept c.in_ok-next_round.ensures.kept;
       so_far = rounds_go_on (state c.args.starter.now).writing world scripts ps qs old new _ b d so stand hosts_stand round;
     }
 

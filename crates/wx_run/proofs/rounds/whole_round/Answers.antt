@@ -55,7 +55,7 @@ returns-in-Idle g c =
     let legal : IsLegal world c.serve_hosts.new.broker.entries = subst (λ w. IsLegal w c.serve_hosts.new.broker.entries) turns.same_world serves.legal in
     let all_there = slots_added state c.args.slots.now.items c.add_slots.new.slots.items b added.all added.left in
     let keeps = places_added state writing world b c.args.slots.now.items c.add_slots.new.slots.items (state c.args.starter.now) (state c.add_slots.new.starter)
-        (round_keeps writing world scripts ps old a b c.in_ok-turns.turns turns.round c.requires.hosts_stand) added.all added.kept in
+    (round_keeps writing world scripts ps old a b c.in_ok-turns.turns turns.round c.requires.hosts_stand) added.all added.kept in
     record {
       stand = served_stand world scripts ps mid new b d Idle turns.stand served legal;
       hosts_stand = subst (λ w. HostsStand writing w d new) turns.same_world (serves.stand writing added.stand);
@@ -88,7 +88,7 @@ returns-in_default-2 g c =
     let legal : IsLegal world c.serve_hosts.new.broker.entries = subst (λ w. IsLegal w c.serve_hosts.new.broker.entries) turns.same_world serves.legal in
     let all_there = slots_added state c.args.slots.now.items c.add_slots.new.slots.items b added.all added.left in
     let keeps = places_added state writing world b c.args.slots.now.items c.add_slots.new.slots.items (state c.args.starter.now) (state c.add_slots.new.starter)
-        (round_keeps writing world scripts ps old a b c.in_ok-turns.turns turns.round c.requires.hosts_stand) added.all added.kept in
+    (round_keeps writing world scripts ps old a b c.in_ok-turns.turns turns.round c.requires.hosts_stand) added.all added.kept in
     record {
       stand = served_stand world scripts ps mid new b d r turns.stand serves.served legal;
       hosts_stand = subst (λ w. HostsStand writing w d new) turns.same_world (serves.stand writing added.stand);

@@ -28,7 +28,7 @@ run_rounds-requires-clause-hosts_stand g c κs within =
     let past = reverse c.open.new.desk.broker.entries in
     let endpoints = c.args.scene.now.endpoints in
     let none : HostsStand writing world past [] = opened_hosts writing world endpoints c.in_ok-cursors.cursors.items past
-        (subst (λ w. OpenedSoFar w endpoints (length endpoints) c.in_ok-cursors.cursors.items past) (sym c.in_ok-cursors.ensures.same_world) c.in_ok-cursors.ensures.opened) in
+    (subst (λ w. OpenedSoFar w endpoints (length endpoints) c.in_ok-cursors.cursors.items past) (sym c.in_ok-cursors.ensures.same_world) c.in_ok-cursors.ensures.opened) in
     subst (λ slots. HostsStand writing world past (slots_of g.P.Starter.state slots)) (sym c.new-slots.ensures.items) none
 
 pub returns-clause-run : goal.returns-clause-run
@@ -58,5 +58,5 @@ returns-clause-records g c =
     let second = places_added state _ _ past c.run_rounds.new.slots.items c.add_slots.new.slots.items between mid c.in_ok-end.ensures.hosts_stand added.all added.kept in
     let stand = hosts_now old.writing between.writing c.args.world c.run_rounds.new.desk.broker.world past slots (keeps_writing _ _ _ _ first) same added.stand in
     let records = have_records scripts c.args.world past c.in_ok-end.end slots old mid (state c.finish_hosts.new.starter) rounds.ended stand (length-map c.add_slots.new.slots.items (slot_of state) ∙ added.all)
-        (keeps_on [] ran slots old between mid first second) c.finish_hosts.ensures in
+    (keeps_on [] ran slots old between mid first second) c.finish_hosts.ensures in
     subst (λ entries. HaveRecords (IsSpent scripts (reverse entries)) c.args.world (reverse entries) old (state c.finish_hosts.new.starter)) (sym c.into_journal.ensures.entries) records
