@@ -1,5 +1,5 @@
 -- One more round of a run.
-use Rattle.std.proofs.Common.{◌≡◌, ℕ, zero, suc, ◌+◌, ◌-◌, ◌*◌, ◌<◌, ◌≤◌, ◌⊎◌, length, take, cond, arith, true, false, List, [], ◌∷◌, ◌++◌, map, Some, None, refl, sym, ap, ◌∙◌, subst, inl, inr}
+use Rattle.std.proofs.Common.{◌≡◌, ℕ, zero, suc, ◌+◌, ◌-◌, ◌*◌, ◌<◌, ◌≤◌, ◌⊎◌, length, take, cond, arith, true, false, List, [], ◌++◌, map, Some, None, refl, sym, ap, ◌∙◌, subst, inl, inr}
 use Rattle.std.specs.declared.option.Option.{Option}
 use Rattle.std.specs.Prelude.{reverse, Result, Ok, Err, IfOk, OnOk}
 use Rattle.wx_id.specs.declared.texts.NoMemory.{NoMemory}
@@ -12,7 +12,7 @@ use Rattle.wx_machine.specs.Answers.{FollowsMachine}
 use Rattle.wx_machine.specs.Each.{EachAfter}
 use Rattle.wx_host_launch.specs.Records.{Writing, StarterState}
 use Rattle.wx_host_slot.specs.Slots.{SlotState, SlotView, slot_of, slots_of, host_limit, closing_record}
-use Rattle.wx_host_slot.specs.Turns.{HostTurn, rested, SaysOrEnds}
+use Rattle.wx_host_slot.specs.Turns.{rested, SaysOrEnds}
 use Rattle.wx_script.specs.declared.script.Command.{Command}
 use Rattle.wx_script.specs.declared.scene.SpentWho.{SpentWho}
 use Rattle.wx_script.specs.declared.scene.SpentWho.TheVariants.{Endpoint, Host}
@@ -23,17 +23,17 @@ use Rattle.wx_run.specs.declared.rounds.Rounded.TheVariants.{Moved, Idle, Spent}
 use Rattle.wx_run.specs.declared.outcome.RunEnd.{RunEnd}
 use Rattle.wx_run.specs.declared.outcome.RunEnd.TheVariants as end
 use Rattle.wx_run.specs.Cursors.{first_spent_in, all_left, work_in}
-use Rattle.wx_run.specs.Hosts.{HaveEnded, NoneReady, HostTurns, host_numbered, spent_host, IsFirstUnended, HaveRecords}
-use Rattle.wx_run.specs.Slots.{HostsStand, first_spent_slot, all_turns_left, keeping}
+use Rattle.wx_run.specs.Hosts.{HaveEnded, NoneReady, HostTurns, host_numbered, IsFirstUnended, HaveRecords}
+use Rattle.wx_run.specs.Slots.{HostsStand, all_turns_left, keeping}
 use Rattle.wx_run.specs.Serving.{HostsServed, FirstHeard}
-use Rattle.wx_run.specs.Rounds.{Turns, Round, of_all, of_first_host, Rounds, FirstTurns, of_endpoints, of_hosts, IsOver, IsCutShort, IsSpent}
-use Rattle.wx_run.specs.Round.{AllStand, IsRound, Lessens, RoundLessens}
+use Rattle.wx_run.specs.Rounds.{Turns, Round, of_all, of_first_host, Rounds, of_endpoints, of_hosts, IsCutShort, IsSpent}
+use Rattle.wx_run.specs.Round.{AllStand, IsRound, RoundLessens}
 use Rattle.wx_run.specs.Run.{BeginsWith, EndsBy}
 use Rattle.wx_run.specs.Running.{AreReady, AllTurns, IsWholeRound, RoundOrNone, IsNextRound, turns_in, TurnsLessen, KeepsPlaces, AreRounds, RoundsSoFar}
 use Rattle.wx_run.proofs.EndLemmas.{spent_behind, done_behind, left_behind}
 use Rattle.wx_run.proofs.SlotLemmas.{records_meet}
 use Rattle.wx_run.proofs.HostEntries.{host_turns_stay, says_stays, hosts_stay}
-use Rattle.wx_run.proofs.HostLemmas.{Grows, grows_on, Turns_grow, by_hosts_grow, endpoints_stand, Turns_keep, Rounds_grow, same_or_more}
+use Rattle.wx_run.proofs.HostLemmas.{grows_on, Turns_grow, by_hosts_grow, endpoints_stand, Turns_keep, Rounds_grow, same_or_more}
 
 -- ---- a whole round
 

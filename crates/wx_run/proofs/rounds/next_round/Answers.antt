@@ -1,4 +1,4 @@
-use Rattle.std.proofs.Common.{◌≡◌, subst}
+use Rattle.std.proofs.Common.{subst}
 use Rattle.std.specs.Prelude.{reverse, OnOk}
 use Rattle.wx_machine.specs.Answers.{IsLegal}
 use Rattle.wx_host_slot.specs.Slots.{slots_of}

@@ -1,4 +1,4 @@
-use Rattle.std.proofs.Common.{◌≡◌, ◌∙◌, sym, ap, subst, refl, cond}
+use Rattle.std.proofs.Common.{◌∙◌, sym, ap, subst, refl, cond}
 use Rattle.std.specs.Prelude.{reverse}
 use Rattle.wx_host_slot.specs.Slots.{slots_of}
 use Rattle.wx_run.specs.declared.rounds.Rounded.TheVariants.{Moved, Idle, Spent}

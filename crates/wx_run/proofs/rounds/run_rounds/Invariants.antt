@@ -1,4 +1,4 @@
-use Rattle.std.proofs.Common.{◌≡◌, ℕ, List}
+use Rattle.std.proofs.Common.{◌≡◌, List}
 use Rattle.std.specs.Prelude.{reverse}
 use Rattle.wx_broker.specs.State.{BrokerState}
 use Rattle.wx_host_launch.specs.Records.{StarterState}
