@@ -120,8 +120,8 @@ left_with false (Some child) made = (host_limit + 3) - made
 abbrev pub turns_left : SlotState → ℕ
 turns_left slot = left_with slot.ended slot.child slot.made
 
--- what a turn behind those of the endpoints came to: the host made an entry or its program was started, and fewer turns are left;
--- or nothing was done, as there was nothing to take
+-- what a turn behind those of the endpoints came to: fewer turns are left, since an entry was made or a program started; or
+-- nothing was done, as there was nothing to take
 abbrev pub CameTo : HostNo → List Entry → List Entry → SlotState → SlotState → Served → Type 0
 CameTo h before after old new Moved = turns_left new < turns_left old
 CameTo h before after old new Rested = (after ≡ before) × (is_host_ready before h ≡ false) × (new ≡ old)
@@ -133,7 +133,8 @@ pub record IsServed (writing : Option Writing) (world : WorldLists) (h : HostNo)
   pub started : WasStarted new
   pub came : CameTo h before after old new served
 
--- What the start of a program leaves: its child runs, and no entry was made; or it could not be started, and the host ended.
+-- What the start of a program leaves: the host has made its turn and ended, as its program could not be started; or its child
+-- runs, and no entry was made.
 pub record IsStarted (writing : Option Writing) (world : WorldLists) (h : HostNo) (before after : List Entry) (old new : SlotState) : Type 0 where
   pub stands : Stands writing world after h new
   pub started : WasStarted new
@@ -141,7 +142,7 @@ pub record IsStarted (writing : Option Writing) (world : WorldLists) (h : HostNo
   pub turn : new.ended ≡ true → HostTurn h before after
   pub no_entry : new.ended ≡ false → (after ≡ before) × (new.made ≡ 0)
 
--- What a host's turn leaves where nobody else can do anything.
+-- What a host's turn leaves where nobody else can do anything: it said a text, or ended.
 pub record HasSpoken (writing : Option Writing) (world : WorldLists) (h : HostNo) (before after : List Entry) (old new : SlotState) : Type 0 where
   pub turn : SaysOrEnds h before after
   pub stands : Stands writing world after h new

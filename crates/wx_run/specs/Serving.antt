@@ -11,8 +11,8 @@ use Rattle.wx_run.specs.declared.rounds.Rounded.TheVariants.{Moved, Idle, Spent}
 use Rattle.wx_run.specs.Hosts.{HaveEnded, IsFirstUnended, NoneReady, HostTurns, spent_host}
 use Rattle.wx_run.specs.Slots.{AllWereStarted, first_spent_slot, all_turns_left}
 
--- Every host made its turn, and none is spent: one made an entry, or a program was started; or no host could do anything, and
--- every program was started. Or a host is spent, behind whose turn no other was made.
+-- Every host made its turn, and none is spent: fewer turns are left, since an entry was made or a program started; or no host
+-- could do anything, and every program was started. Or the first hosts alone made their turns, and a host is spent.
 abbrev pub HostsServed : List Entry → List Entry → List SlotState → List SlotState → Rounded → Type 0
 HostsServed before after old new Moved =
     HostTurns (length (hosts before)) before after × (first_spent_slot 0 new ≡ None) × (all_turns_left new < all_turns_left old)
@@ -22,7 +22,7 @@ HostsServed before after old new (Spent (Endpoint n)) = ⊥
 HostsServed before after old new (Spent (Host h)) =
     (count : ℕ) × (count ≤ length (hosts before)) × HostTurns count before after × (spent_host after ≡ Some h)
 
--- The first host that has not ended said a text or ended, and is spent or not; or every host has ended.
+-- The first host that has not ended said a text or ended, and then no host is spent, or one is; or every host has ended.
 abbrev pub FirstHeard : List Entry → List Entry → List SlotState → List SlotState → Rounded → Type 0
 FirstHeard before after old new Moved =
     ((h : HostNo) × IsFirstUnended before h × SaysOrEnds h before after) × (first_spent_slot 0 new ≡ None) × (all_turns_left new < all_turns_left old)
