@@ -7,7 +7,7 @@ use Rattle.wx_machine.specs.declared.entries.Answer.{Answer}
 use Rattle.wx_machine.specs.declared.entries.Entry.{Entry}
 use Rattle.wx_host_launch.specs.History.{Seen, entries_in, AreOthers, calls_in, EachOwn}
 use Rattle.wx_host_launch.specs.Steps.{DeskState, past_of, MakesNone, MakesOne, own_entry, Ends, FindsText}
-use Rattle.wx_host_launch.specs.Halves.{text_taken, texts_taken, text_said, texts_said}
+use Rattle.wx_host_launch.specs.Halves.{text_of_take, texts_of_takes, text_said, texts_said}
 
 -- Entries of others
 
@@ -23,9 +23,9 @@ said-none : (xs : List Seen) → AreOthers xs → texts_said xs ≡ []
 said-none [] h = refl
 said-none (x ∷ xs) (h, e) = ap (λ b. texts_said xs ++ cond b (text_said x.entry.call) []) e ∙ append-nil (texts_said xs) ∙ said-none xs h
 
-taken-none : (past : List Entry) (xs : List Seen) → AreOthers xs → texts_taken past xs ≡ []
+taken-none : (past : List Entry) (xs : List Seen) → AreOthers xs → texts_of_takes past xs ≡ []
 taken-none past [] h = refl
-taken-none past (x ∷ xs) (h, e) = ap (λ b. texts_taken past xs ++ cond b (text_taken past x.entry.call x.entry.answer) []) e ∙ append-nil (texts_taken past xs) ∙ taken-none past xs h
+taken-none past (x ∷ xs) (h, e) = ap (λ b. texts_of_takes past xs ++ cond b (text_of_take past x.entry.call x.entry.answer) []) e ∙ append-nil (texts_of_takes past xs) ∙ taken-none past xs h
 
 each-none : (P : List Entry → Call → Type 0) (past : List Entry) (xs : List Seen) → AreOthers xs → EachOwn P past xs
 each-none P past [] h = tt
@@ -41,9 +41,9 @@ said-append : (xs ys : List Seen) → texts_said (xs ++ ys) ≡ texts_said ys ++
 said-append [] ys = sym (append-nil (texts_said ys))
 said-append (x ∷ xs) ys = ap (λ ts. ts ++ cond x.own (text_said x.entry.call) []) (said-append xs ys) ∙ append_assoc (texts_said ys) (texts_said xs) (cond x.own (text_said x.entry.call) [])
 
-taken-append : (past : List Entry) (xs ys : List Seen) → texts_taken past (xs ++ ys) ≡ texts_taken past ys ++ texts_taken past xs
-taken-append past [] ys = sym (append-nil (texts_taken past ys))
-taken-append past (x ∷ xs) ys = ap (λ ts. ts ++ cond x.own (text_taken past x.entry.call x.entry.answer) []) (taken-append past xs ys) ∙ append_assoc (texts_taken past ys) (texts_taken past xs) (cond x.own (text_taken past x.entry.call x.entry.answer) [])
+taken-append : (past : List Entry) (xs ys : List Seen) → texts_of_takes past (xs ++ ys) ≡ texts_of_takes past ys ++ texts_of_takes past xs
+taken-append past [] ys = sym (append-nil (texts_of_takes past ys))
+taken-append past (x ∷ xs) ys = ap (λ ts. ts ++ cond x.own (text_of_take past x.entry.call x.entry.answer) []) (taken-append past xs ys) ∙ append_assoc (texts_of_takes past ys) (texts_of_takes past xs) (cond x.own (text_of_take past x.entry.call x.entry.answer) [])
 
 each-append : (P : List Entry → Call → Type 0) (past : List Entry) (xs ys : List Seen) → EachOwn P (entries_in ys ++ past) xs → EachOwn P past ys → EachOwn P past (xs ++ ys)
 each-append P past [] ys h k = k
@@ -87,7 +87,7 @@ pub record Stretch (P : List Entry → Call → Type 0) (old new : DeskState) (c
   pub more : List Seen
   pub seen : new.history ≡ more ++ old.history
   pub calls_are : calls_in more ≡ calls
-  pub taken_are : (past : List Entry) → texts_taken past more ≡ taken past
+  pub taken_are : (past : List Entry) → texts_of_takes past more ≡ taken past
   pub said_are : texts_said more ≡ said
   pub each : EachOwn P (past_of old) more
 
@@ -102,7 +102,7 @@ stretch_none P old between new none same = record {
 }
 
 pub stretch_own : (P : List Entry → Call → Type 0) (old between new : DeskState) (call : Call) (answer : Answer) → MakesNone old between → new.history ≡ own_entry between call answer ∷ between.history → P (past_of between) call
-    → Stretch P old new (call ∷ []) (λ past. text_taken past call answer) (text_said call)
+    → Stretch P old new (call ∷ []) (λ past. text_of_take past call answer) (text_said call)
 stretch_own P old between new call answer none made h =
     let own = own_entry between call answer in
     let Q : List Entry → Type 0 = λ es. P es call in
@@ -110,7 +110,7 @@ stretch_own P old between new call answer none made h =
       more = own ∷ none.others;
       seen = made ∙ ap (λ xs. own ∷ xs) none.seen;
       calls_are = ap (λ cs. call ∷ cs) (calls-none none.others none.none_own);
-      taken_are = λ past. ap (λ ts. ts ++ text_taken past call answer) (taken-none past none.others none.none_own);
+      taken_are = λ past. ap (λ ts. ts ++ text_of_take past call answer) (taken-none past none.others none.none_own);
       said_are = ap (λ ts. ts ++ text_said call) (said-none none.others none.none_own);
       each = (each-none P (past_of old) none.others none.none_own, λ is. subst Q (past-others old between none) h);
     }
@@ -120,7 +120,7 @@ stretch_twice P a b c cs ds t u x y h k = record {
   more = k.more ++ h.more;
   seen = k.seen ∙ ap (λ xs. k.more ++ xs) h.seen ∙ sym (append_assoc k.more h.more a.history);
   calls_are = calls-append k.more h.more ∙ ap (λ zs. zs ++ calls_in h.more) k.calls_are ∙ ap (λ zs. ds ++ zs) h.calls_are;
-  taken_are = λ past. taken-append past k.more h.more ∙ ap (λ zs. zs ++ texts_taken past k.more) (h.taken_are past) ∙ ap (λ zs. t past ++ zs) (k.taken_are past);
+  taken_are = λ past. taken-append past k.more h.more ∙ ap (λ zs. zs ++ texts_of_takes past k.more) (h.taken_are past) ∙ ap (λ zs. t past ++ zs) (k.taken_are past);
   said_are = said-append k.more h.more ∙ ap (λ zs. zs ++ texts_said k.more) h.said_are ∙ ap (λ zs. x ++ zs) k.said_are;
   each = each-append P (past_of a) k.more h.more (subst (λ es. EachOwn P es k.more) (ap entries_in h.seen ∙ map-append (λ (s : Seen). s.entry) h.more a.history) k.each) h.each;
 }

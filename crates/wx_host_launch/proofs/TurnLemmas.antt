@@ -26,7 +26,7 @@ use Rattle.wx_outside.specs.Sink.{added, AddsFront}
 use Rattle.wx_host_launch.specs.History.{Seen, entries_in, EachOwn}
 use Rattle.wx_host_launch.specs.Pipes.{InState, OutState, Gives}
 use Rattle.wx_host_launch.specs.Steps.{DeskState, IsSound, past_of, MakesNone, MakesOne, TakesNews, FindsNoNews, Ends}
-use Rattle.wx_host_launch.specs.Halves.{text_taken, texts_taken, Sends, whole, in_part, ends_by_write, EndsLast, TakesReady, IsInHalf, EndsFor, last_said_closed, IsCause, IsOutHalf}
+use Rattle.wx_host_launch.specs.Halves.{text_of_take, texts_of_takes, Sends, whole, in_part, ends_by_write, EndsLast, TakesReady, IsInHalf, EndsFor, last_said_closed, IsCause, IsOutHalf}
 use Rattle.wx_host_launch.specs.Turns.{IsInTurn, IsOutTurn, IsClosedTurn, at_once, behind_write, Says, EndsOrWaits}
 use Rattle.wx_host_launch.specs.declared.turns.InTurn.TheVariants as into
 use Rattle.wx_host_launch.specs.declared.turns.OutTurn.{OutTurn}
@@ -49,7 +49,7 @@ text_lent start old n sound h =
     let P : DeskState → Type 0 = λ d. (d.lent ≡ Some n) × HasShortText (past_of d) n in
     subst P (sym h.made) (refl, record { text = short.text; carried = text_of-more (_ ∷ []) (past_of h.between) n short.text short.carried; short = short.short })
 
-taken_stretch : (start old : DeskState) (a : Answer) → TakesNews start old a → Stretch (TakesReady start.host) start old (HostTake ∷ []) (λ past. text_taken past HostTake a) []
+taken_stretch : (start old : DeskState) (a : Answer) → TakesNews start old a → Stretch (TakesReady start.host) start old (HostTake ∷ []) (λ past. text_of_take past HostTake a) []
 taken_stretch start old a h =
     stretch_own (TakesReady start.host) start h.between old HostTake a h.others (ap (λ (d : DeskState). d.history) h.made) (ap (is_host_ready (past_of h.between)) (sym h.others.same_host) ∙ h.ready)
 
@@ -66,7 +66,7 @@ pub in_half : (old new : DeskState) (before now : InState) (refused : Bool) (byt
     → Sends (Rose before.faults now.faults) (taken (past_of new)) bytes (ends_by_write calls || refused) → EndsLast (Rose before.faults now.faults) calls → IsInHalf old new before now refused
 in_half old new before now refused bytes calls taken said s sent sends ends =
     let T : List (List ℕ) → Type 0 = λ ts. Sends (Rose before.faults now.faults) ts bytes (ends_by_write calls || refused) in
-    let C : List Call → Type 0 = λ cs. Sends (Rose before.faults now.faults) (texts_taken (past_of new) s.more) bytes (ends_by_write cs || refused) in
+    let C : List Call → Type 0 = λ cs. Sends (Rose before.faults now.faults) (texts_of_takes (past_of new) s.more) bytes (ends_by_write cs || refused) in
     record {
       more = s.more;
       seen = s.seen;
@@ -102,12 +102,12 @@ closed_in old new before now h is = record {
 }
 
 -- the text that was taken
-one_taken : (past : List Entry) (n : EntryNo) (t : List ℕ) → text_of past n ≡ Some t → text_taken past HostTake (answer.Text n) ≡ t ∷ []
+one_taken : (past : List Entry) (n : EntryNo) (t : List ℕ) → text_of past n ≡ Some t → text_of_take past HostTake (answer.Text n) ≡ t ∷ []
 one_taken past n t e = ap option_to_list e
 
 pub moved_in : (old new : DeskState) (before now : InState) (n : EntryNo) (t : List ℕ) → TakesNews old new (answer.Text n) → text_of (past_of new) n ≡ Some t → now.sent ≡ added before.sent (frame t) → now.closed ≡ before.closed → IsInTurn old new before now into.Moved
 moved_in old new before now n t h carried sent closed = record {
-  half = in_half old new before now false (frame t) (HostTake ∷ []) (λ past. text_taken past HostTake (answer.Text n)) [] (taken_stretch old new (answer.Text n) h) sent (whole (sym (append-nil (frame t)) ∙ ap frames (sym (one_taken (past_of new) n t carried)))) (tt, tt);
+  half = in_half old new before now false (frame t) (HostTake ∷ []) (λ past. text_of_take past HostTake (answer.Text n)) [] (taken_stretch old new (answer.Text n) h) sent (whole (sym (append-nil (frame t)) ∙ ap frames (sym (one_taken (past_of new) n t carried)))) (tt, tt);
   came = ((n, h), closed);
 }
 
@@ -121,10 +121,10 @@ taken_later mid new more n t seen carried =
 cut_short : (old mid new : DeskState) (before now : InState) (refused : Bool) (n : EntryNo) (t : List ℕ) (calls : List Call) → TakesNews old mid (answer.Text n) → text_of (past_of mid) n ≡ Some t → AddsFront before.sent now.sent (frame t) → Rose before.faults now.faults
     → Stretch (TakesReady old.host) mid new calls (λ past. []) [] → ends_by_write (calls ++ HostTake ∷ []) || refused ≡ true → EndsLast (Rose before.faults now.faults) (calls ++ HostTake ∷ []) → IsInHalf old new before now refused
 cut_short old mid new before now refused n t calls h carried (m, le, sent) rose s stops ends =
-    let texts : text_taken (past_of new) HostTake (answer.Text n) ++ [] ≡ [] ++ t ∷ [] = append-nil (text_taken (past_of new) HostTake (answer.Text n)) ∙ one_taken (past_of new) n t (taken_later mid new s.more n t s.seen carried) in
-    let B : Bool → Type 0 = Sends (Rose before.faults now.faults) (text_taken (past_of new) HostTake (answer.Text n) ++ []) (take m (frame t)) in
-    in_half old new before now refused (take m (frame t)) (calls ++ HostTake ∷ []) (λ past. text_taken past HostTake (answer.Text n) ++ []) []
-    (stretch_twice (TakesReady old.host) old mid new (HostTake ∷ []) calls (λ past. text_taken past HostTake (answer.Text n)) (λ past. []) [] [] (taken_stretch old mid (answer.Text n) h) s)
+    let texts : text_of_take (past_of new) HostTake (answer.Text n) ++ [] ≡ [] ++ t ∷ [] = append-nil (text_of_take (past_of new) HostTake (answer.Text n)) ∙ one_taken (past_of new) n t (taken_later mid new s.more n t s.seen carried) in
+    let B : Bool → Type 0 = Sends (Rose before.faults now.faults) (text_of_take (past_of new) HostTake (answer.Text n) ++ []) (take m (frame t)) in
+    in_half old new before now refused (take m (frame t)) (calls ++ HostTake ∷ []) (λ past. text_of_take past HostTake (answer.Text n) ++ []) []
+    (stretch_twice (TakesReady old.host) old mid new (HostTake ∷ []) calls (λ past. text_of_take past HostTake (answer.Text n)) (λ past. []) [] [] (taken_stretch old mid (answer.Text n) h) s)
     sent (subst B (sym stops) (in_part rose [] t m texts refl)) ends
 
 pub failed_in : (old mid new : DeskState) (before now : InState) (n : EntryNo) (t : List ℕ) (a : Answer) → TakesNews old mid (answer.Text n) → text_of (past_of mid) n ≡ Some t → AddsFront before.sent now.sent (frame t) → Rose before.faults now.faults → now.closed ≡ before.closed
@@ -188,7 +188,7 @@ says_out start old new reader after before now t out.Moved none read (a, h) =
     let one = none_then_one start old new (HostSaid t) a none h in
     let K : List ℕ → Type 0 = Keeps [] in
     record {
-      half = out_half start new reader after before now false read.bytes (t ∷ []) [] [] (HostSaid t ∷ []) (λ past. text_taken past (HostSaid t) a) (t ∷ [])
+      half = out_half start new reader after before now false read.bytes (t ∷ []) [] [] (HostSaid t ∷ []) (λ past. text_of_take past (HostSaid t) a) (t ∷ [])
           (stretch_own (EndsFor (IsCause (t ∷ [] ≡ t ∷ []) [] before now) start.host) start one.between new (HostSaid t) a one.others (ap (λ (d : DeskState). d.history) one.made) tt)
           read.given (split_one (reader.bytes ++ read.bytes) t read.came.0) refl (λ e. refl) (λ e. subst K (sym read.came.1) (all (short_under_way [] LONGEST_SAID (omega arith)).no_trouble));
       came = ((t, a, one), refl);
@@ -251,7 +251,7 @@ ends_out start old new reader after before now bytes reason out.Ended none given
     let s = stretch_own (EndsFor (IsCause NoneToSay r before now) start.host) start h.between new (HostEnded reason) a (none_twice start old h.between none h.others) (ap (λ (d : DeskState). d.history) h.made) (subst N same (h.none_left, had)) in
     let C : List (List ℕ) → Type 0 = λ x. IsCause (x ≡ []) r before now (last_said_closed (past_of new) new.host) reason in
     record {
-      half = out_half start new reader after before now false bytes [] r [] (HostEnded reason ∷ []) (λ past. text_taken past (HostEnded reason) a) [] s given (split_none r no_frame) refl (λ e. refl) (λ e. kept);
+      half = out_half start new reader after before now false bytes [] r [] (HostEnded reason ∷ []) (λ past. text_of_take past (HostEnded reason) a) [] s given (split_none r no_frame) refl (λ e. refl) (λ e. kept);
       came = (reason, a, ends, subst C (sym s.said_are) (cause_behind old new r before now reason a h had));
     }
 ends_out start old new reader after before now bytes reason out.NoMemory none given no_frame kept cause sound h =

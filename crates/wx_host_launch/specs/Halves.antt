@@ -1,5 +1,5 @@
--- The two halves of a host's record. Each is about one end of its pipe, and about the entries that were made at one desk
--- in one call (Chrome's "Native messaging": each message is a text behind its length, in both directions).
+-- The two halves of what a host's record is asked for. Each is about one end of its pipe, and about the entries that were
+-- made at one desk in one call (Chrome's "Native messaging": each message is a text behind its length, in both directions).
 use Rattle.std.specs.Prelude.{◌≡◌, ℕ, Bool, true, false, ◌&&◌, ◌||◌, List, [], ◌∷◌, ◌++◌, take, cond, None, option_to_list}
 use Rattle.wx_id.specs.declared.numbers.HostNo.{HostNo}
 use Rattle.wx_native_frame.specs.Frames.{Unfinished, frame}
@@ -26,14 +26,14 @@ use Rattle.wx_host_launch.specs.Steps.{DeskState, past_of}
 -- The input
 
 -- the text that a call of a host was answered with
-abbrev pub text_taken : List Entry → Call → Answer → List (List ℕ)
-text_taken past HostTake (HasText n) = option_to_list (text_of past n)
-text_taken past _ _ = []
+abbrev pub text_of_take : List Entry → Call → Answer → List (List ℕ)
+text_of_take past HostTake (HasText n) = option_to_list (text_of past n)
+text_of_take past _ _ = []
 
 -- the texts that the takes at this desk were answered with, the first first
-abbrev pub texts_taken : List Entry → List Seen → List (List ℕ)
-texts_taken past [] = []
-texts_taken past (s ∷ more) = texts_taken past more ++ cond s.own (text_taken past s.entry.call s.entry.answer) []
+abbrev pub texts_of_takes : List Entry → List Seen → List (List ℕ)
+texts_of_takes past [] = []
+texts_of_takes past (s ∷ more) = texts_of_takes past more ++ cond s.own (text_of_take past s.entry.call s.entry.answer) []
 
 -- the bytes are the frames of the texts; where a write failed, and only then, they may be those of all but the last and
 -- a front of the last one's
@@ -54,14 +54,14 @@ abbrev pub NoneEnds : List Call → Type 0
 NoneEnds [] = Unit {0}
 NoneEnds (call ∷ calls) = (is_host_end call ≡ false) × NoneEnds calls
 
-abbrev pub EndsBy : Type 0 → Call → Type 0
-EndsBy failed (HostEnded reason) = (reason ≡ WriteFailed) × failed
-EndsBy failed _ = Unit {0}
+abbrev pub EndsAsWriteFailed : Type 0 → Call → Type 0
+EndsAsWriteFailed failed (HostEnded reason) = (reason ≡ WriteFailed) × failed
+EndsAsWriteFailed failed _ = Unit {0}
 
 -- a host ends by the last call alone, and as a write failed
 abbrev pub EndsLast : Type 0 → List Call → Type 0
 EndsLast failed [] = Unit {0}
-EndsLast failed (call ∷ calls) = NoneEnds calls × EndsBy failed call
+EndsLast failed (call ∷ calls) = NoneEnds calls × EndsAsWriteFailed failed call
 
 -- a host takes where that has something new to tell
 abbrev pub TakesReady : HostNo → List Entry → Call → Type 0
@@ -75,7 +75,7 @@ pub record IsInHalf (old new : DeskState) (before now : InState) (refused : Bool
   pub seen : new.history ≡ more ++ old.history
   pub bytes : List ℕ
   pub sent : now.sent ≡ added before.sent bytes
-  pub frames : Sends (Rose before.faults now.faults) (texts_taken (past_of new) more) bytes (ends_by_write (calls_in more) || refused)
+  pub frames : Sends (Rose before.faults now.faults) (texts_of_takes (past_of new) more) bytes (ends_by_write (calls_in more) || refused)
   pub ended : EndsLast (Rose before.faults now.faults) (calls_in more)
   pub ready : EachOwn (TakesReady old.host) (past_of old) more
 
@@ -91,14 +91,14 @@ texts_said [] = []
 texts_said (s ∷ more) = texts_said more ++ cond s.own (text_said s.entry.call) []
 
 -- a host says something
-abbrev pub is_message : Call → Bool
-is_message (HostSaid text) = true
-is_message _ = false
+abbrev pub is_saying : Call → Bool
+is_saying (HostSaid text) = true
+is_saying _ = false
 
 -- the last message of host h was answered that its channel is closed
 abbrev pub last_said_closed : List Entry → HostNo → Bool
 last_said_closed [] h = false
-last_said_closed (e ∷ past) h = cond (is_message e.call && is_by_host e.who h) (was_said_closed e.call e.answer) (last_said_closed past h)
+last_said_closed (e ∷ past) h = cond (is_saying e.call && is_by_host e.who h) (was_said_closed e.call e.answer) (last_said_closed past h)
 
 -- Why a host may end: its channel was closed when it last said something, or every text that came was said and reading
 -- ended so behind them.

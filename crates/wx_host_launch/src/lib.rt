@@ -1,4 +1,5 @@
-//! A native host from outside: its program and the two ends of its pipe, and one turn of the pump of each.
+//! A native host from outside: its program and the two ends of its pipe. At each end a pump carries messages between a
+//! desk and the pipe; here is one turn of each.
 #![tactic(auto)]
 
 mod children;

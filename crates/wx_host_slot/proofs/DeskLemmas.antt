@@ -16,7 +16,7 @@ use Rattle.wx_machine.specs.Hosts.{is_by_host}
 use Rattle.wx_machine.specs.Texts.{next_text}
 use Rattle.wx_broker.specs.State.{BrokerState}
 use Rattle.wx_host_launch.specs.History.{Seen, entries_in, calls_in}
-use Rattle.wx_host_launch.specs.Halves.{text_taken, texts_taken, text_said, texts_said}
+use Rattle.wx_host_launch.specs.Halves.{text_of_take, texts_of_takes, text_said, texts_said}
 use Rattle.wx_host_launch.specs.Steps.{DeskState, past_of, MakesNone, MakesOne, behind, lent_by, TakesNews, FindsNoNews, Ends, FindsText}
 use Rattle.wx_host_slot.specs.BrokerDesks.{seen_by, desk_over}
 use Rattle.wx_host_slot.proofs.JournalLemmas.{own, is_own}
@@ -118,8 +118,8 @@ more_at h world past entries old new more at now seen =
 pub calls_own : (h : HostNo) (call : Call) (a : Answer) (entries : List Entry) → calls_in (seen_by h (own h call a ∷ entries)) ≡ call ∷ calls_in (seen_by h entries)
 calls_own h call a entries = ap (λ b. cond b (call ∷ []) [] ++ calls_in (seen_by h entries)) (is_own h)
 
-pub texts_own : (h : HostNo) (call : Call) (a : Answer) (entries past : List Entry) → texts_taken past (seen_by h (own h call a ∷ entries)) ≡ texts_taken past (seen_by h entries) ++ text_taken past call a
-texts_own h call a entries past = ap (λ b. texts_taken past (seen_by h entries) ++ cond b (text_taken past call a) []) (is_own h)
+pub texts_own : (h : HostNo) (call : Call) (a : Answer) (entries past : List Entry) → texts_of_takes past (seen_by h (own h call a ∷ entries)) ≡ texts_of_takes past (seen_by h entries) ++ text_of_take past call a
+texts_own h call a entries past = ap (λ b. texts_of_takes past (seen_by h entries) ++ cond b (text_of_take past call a) []) (is_own h)
 
 pub words_own : (h : HostNo) (call : Call) (a : Answer) (entries : List Entry) → texts_said (seen_by h (own h call a ∷ entries)) ≡ texts_said (seen_by h entries) ++ text_said call
 words_own h call a entries = ap (λ b. texts_said (seen_by h entries) ++ cond b (text_said call) []) (is_own h)

@@ -15,8 +15,8 @@ use Rattle.wx_machine.specs.Texts.{has_ended, is_host_end, next_text}
 use Rattle.wx_host_launch.specs.Halves.{Sends}
 use Rattle.wx_host_launch.specs.Records.{Program, Account, HostRecord, Writing}
 use Rattle.wx_host_slot.specs.Journals.{entries_of, taken_by, said_by, EachOf, LeavesNoText, IsInPlace, program_of}
-use Rattle.wx_host_slot.specs.Meets.{IsHeard, ToldCause, ToldEnd, CountedCause, CountedEnd, MeetsAccount, Told, MeetsStarted}
-use Rattle.wx_host_slot.specs.Slots.{ChildState, SlotState, closing_record, Runs, IsStartedRecord, StandsRunning, running, over, Stands, WasStarted, host_limit, is_spent_at, left_with, turns_left}
+use Rattle.wx_host_slot.specs.Meets.{IsHeard, ToldCause, ToldEnd, CountedCause, CountedEnd, MeetsAccount, ToldAccount, MeetsStarted}
+use Rattle.wx_host_slot.specs.Slots.{ChildState, SlotState, closing_record, Runs, IsStartedRecord, StandsRunning, running, at_end, Stands, WasStarted, host_limit, is_spent_at, left_with, turns_left}
 use Rattle.wx_host_slot.proofs.JournalLemmas.{own, each_unended, entries_own, taken_own, said_own, ended_own, program_later}
 use Rattle.wx_host_slot.proofs.StandsLater.{pipes_program, counted_unended, told_unended}
 
@@ -46,7 +46,7 @@ account_ended world past h r w account reason a p unended its_own started l =
     }
 
 pub meets_ended : (writing : Option Writing) (world : WorldLists) (past : List Entry) (h : HostNo) (r : HostRecord) (reason : Reason) (a : Answer) → has_ended past h ≡ false → EachOf h (IsInPlace h) past → LeavesNoText h past reason
-    → CountedCause h (entries_of h past + 1) r past reason → Told (MeetsAccount world (own h (HostEnded reason) a ∷ past) h r) writing r.account → MeetsStarted writing world (own h (HostEnded reason) a ∷ past) h r
+    → CountedCause h (entries_of h past + 1) r past reason → ToldAccount (MeetsAccount world (own h (HostEnded reason) a ∷ past) h r) writing r.account → MeetsStarted writing world (own h (HostEnded reason) a ∷ past) h r
 meets_ended writing world past h r reason a unended in_place leaves cause told =
     let C : ℕ → Type 0 = λ made. CountedCause h made r past reason in
     let made = entries_of h (own h (HostEnded reason) a ∷ past) in
@@ -104,7 +104,7 @@ goes_on writing world past h slot child next call a s run no_end in_place runs =
       stands = running next (record {
         has_child = refl;
         unended = refl;
-        not_over = ended_own h call a past run.not_over ∙ no_end;
+        host_unended = ended_own h call a past run.host_unended ∙ no_end;
         starter_record = subst R (sym same) run.starter_record;
         runs = runs;
         in_place = (run.in_place, λ is. in_place);
@@ -117,7 +117,7 @@ pub is_over : (writing : Option Writing) (world : WorldLists) (past : List Entry
 is_over writing world past h slot next more reason a same counted unended meets = record {
   same_writing = same;
   counted = counted ∙ sym (entries_own h (HostEnded reason) a past);
-  stands = over refl (ended_own h (HostEnded reason) a past unended) meets;
+  stands = at_end refl (ended_own h (HostEnded reason) a past unended) meets;
 }
 
 pub was_started_by : (slot : SlotState) (next : ChildState) (more : ℕ) (ended : Bool) → WasStarted (behind_turn slot next more ended)

@@ -18,7 +18,7 @@ use Rattle.wx_machine.specs.Texts.{has_ended}
 use Rattle.wx_outside.specs.Causes.{Rose}
 use Rattle.wx_outside.specs.Sink.{added}
 use Rattle.wx_host_launch.specs.History.{Seen, calls_in}
-use Rattle.wx_host_launch.specs.Halves.{text_taken, texts_taken, Sends, ends_by_write}
+use Rattle.wx_host_launch.specs.Halves.{text_of_take, texts_of_takes, Sends, ends_by_write}
 use Rattle.wx_host_launch.specs.Pipes.{InState, Stream}
 use Rattle.wx_host_launch.specs.Records.{Program, Account, HostRecord, Writing, with_bytes, finished}
 use Rattle.wx_host_launch.specs.Steps.{DeskState, past_of}
@@ -27,7 +27,7 @@ use Rattle.wx_host_launch.specs.declared.turns.InTurn.TheVariants as into
 use Rattle.wx_host_launch.proofs.HostLemmas.{HasShortText, taken_short, text_of-more}
 use Rattle.wx_host_slot.specs.BrokerDesks.{seen_by}
 use Rattle.wx_host_slot.specs.Journals.{taken_by, said_by, program_of}
-use Rattle.wx_host_slot.specs.Meets.{IsHeard, MeetsAccount, Told, MeetsStarted}
+use Rattle.wx_host_slot.specs.Meets.{IsHeard, MeetsAccount, ToldAccount, MeetsStarted}
 use Rattle.wx_host_slot.specs.Slots.{ChildState, SlotState, closing_record, PipesTold, IsStartedRecord, Runs, StandsRunning, Stands, IsServed}
 use Rattle.wx_host_slot.specs.Turns.{took, not_written, rested}
 use Rattle.wx_host_slot.specs.declared.slot.Served.{Served}
@@ -51,7 +51,7 @@ pub record Leads (writing : Option Writing) (world : WorldLists) (h : HostNo) (p
 -- The text that a take was answered with
 
 -- it is told by the shorter past too
-text_same : (more past : List Entry) (n : EntryNo) → HasShortText past n → text_taken (more ++ past) HostTake (HasText n) ≡ text_taken past HostTake (HasText n)
+text_same : (more past : List Entry) (n : EntryNo) → HasShortText past n → text_of_take (more ++ past) HostTake (HasText n) ≡ text_of_take past HostTake (HasText n)
 text_same more past n t = ap option_to_list (text_of-more more past n t.text t.carried ∙ sym t.carried)
 
 short_taken : (h : HostNo) (world : WorldLists) (past : List Entry) (n : EntryNo) → EachAfter (FollowsMachine world) (own h HostTake (HasText n) ∷ past) → HasShortText past n
@@ -59,41 +59,41 @@ short_taken h world past n legal = taken_short world past h n legal.0 legal.1.an
 
 -- the texts of one take
 texts_one : (h : HostNo) (world : WorldLists) (past : List Entry) (old new : DeskState) (more : List Seen) (n : EntryNo) → IsAt h world past old → IsAt h world (own h HostTake (HasText n) ∷ past) new → new.history ≡ more ++ old.history → HasShortText past n
-    → (texts_taken (past_of new) more ≡ text_taken past HostTake (HasText n)) × (calls_in more ≡ HostTake ∷ [])
+    → (texts_of_takes (past_of new) more ≡ text_of_take past HostTake (HasText n)) × (calls_in more ≡ HostTake ∷ [])
 texts_one h world past old new more n at now seen short =
     let entries : List Entry = own h HostTake (HasText n) ∷ [] in
     let is = more_at h world past entries old new more at now seen in (
-      ap (texts_taken (past_of new)) is ∙ texts_own h HostTake (HasText n) [] (past_of new) ∙ ap (λ p. text_taken p HostTake (HasText n)) (past_at h world (entries ++ past) new now) ∙ text_same entries past n short,
+      ap (texts_of_takes (past_of new)) is ∙ texts_own h HostTake (HasText n) [] (past_of new) ∙ ap (λ p. text_of_take p HostTake (HasText n)) (past_at h world (entries ++ past) new now) ∙ text_same entries past n short,
       ap calls_in is ∙ calls_own h HostTake (HasText n) [],
     )
 
 -- of a take, and an end behind it
 texts_two : (h : HostNo) (world : WorldLists) (past : List Entry) (old new : DeskState) (more : List Seen) (n : EntryNo) (b : Answer) → IsAt h world past old → IsAt h world (own h (HostEnded WriteFailed) b ∷ own h HostTake (HasText n) ∷ past) new → new.history ≡ more ++ old.history → HasShortText past n
-    → texts_taken (past_of new) more ≡ text_taken past HostTake (HasText n)
+    → texts_of_takes (past_of new) more ≡ text_of_take past HostTake (HasText n)
 texts_two h world past old new more n b at now seen short =
     let entries : List Entry = own h (HostEnded WriteFailed) b ∷ own h HostTake (HasText n) ∷ [] in
-    ap (texts_taken (past_of new)) (more_at h world past entries old new more at now seen)
+    ap (texts_of_takes (past_of new)) (more_at h world past entries old new more at now seen)
     ∙ texts_own h (HostEnded WriteFailed) b (own h HostTake (HasText n) ∷ []) (past_of new)
-    ∙ append-nil (texts_taken (past_of new) (seen_by h (own h HostTake (HasText n) ∷ [])))
+    ∙ append-nil (texts_of_takes (past_of new) (seen_by h (own h HostTake (HasText n) ∷ [])))
     ∙ texts_own h HostTake (HasText n) [] (past_of new)
-    ∙ ap (λ p. text_taken p HostTake (HasText n)) (past_at h world (entries ++ past) new now)
+    ∙ ap (λ p. text_of_take p HostTake (HasText n)) (past_at h world (entries ++ past) new now)
     ∙ text_same entries past n short
 
 -- Behind a take
 
 -- a child runs on, whose input was sent the text that was taken
-runs_taking : (writing : Option Writing) (world : WorldLists) (past : List Entry) (h : HostNo) (child : ChildState) (input : InState) (a : Answer) (bytes : List ℕ) → Runs writing world past h child → input.sent ≡ added child.input.sent bytes → bytes ≡ frames (text_taken past HostTake a)
+runs_taking : (writing : Option Writing) (world : WorldLists) (past : List Entry) (h : HostNo) (child : ChildState) (input : InState) (a : Answer) (bytes : List ℕ) → Runs writing world past h child → input.sent ≡ added child.input.sent bytes → bytes ≡ frames (text_of_take past HostTake a)
     → Runs writing world (own h HostTake a ∷ past) h (with_input child input)
 runs_taking writing world past h child input a bytes runs sent whole =
     let program = program_of world past h in
     let (p, is) = pipes_program writing program (taken_by h past) (said_by h past) child.input.sent child.output.stream runs.pipes in
-    runs_by writing world (own h HostTake a ∷ past) h (with_input child input) program (taken_by h past ++ text_taken past HostTake a) (said_by h past)
+    runs_by writing world (own h HostTake a ∷ past) h (with_input child input) program (taken_by h past ++ text_of_take past HostTake a) (said_by h past)
     (program_later world past (own h HostTake a) h p is ∙ sym is) (taken_own h HostTake a past) (said_own h HostTake a past ∙ append-nil (said_by h past)) runs.limit runs.none_in_hand runs.fit
-    (pipes_sent writing program (taken_by h past) (said_by h past) (text_taken past HostTake a) child.input.sent input.sent child.output.stream bytes sent whole runs.pipes)
+    (pipes_sent writing program (taken_by h past) (said_by h past) (text_of_take past HostTake a) child.input.sent input.sent child.output.stream bytes sent whole runs.pipes)
 
 -- the host took, and goes on
 took_on : (writing : Option Writing) (world : WorldLists) (past : List Entry) (h : HostNo) (slot : SlotState) (child : ChildState) (input : InState) (a : Answer) (bytes : List ℕ) (desk : DeskState) → IsAt h world (own h HostTake a ∷ past) desk → is_host_ready past h ≡ true → Stands writing world past h slot → StandsRunning writing world past h slot child
-    → slot.made < 65536 → input.sent ≡ added child.input.sent bytes → bytes ≡ frames (text_taken past HostTake a) → Leads writing world h past slot (behind_turn slot (with_input child input) 1 false) desk Moved
+    → slot.made < 65536 → input.sent ≡ added child.input.sent bytes → bytes ≡ frames (text_of_take past HostTake a) → Leads writing world h past slot (behind_turn slot (with_input child input) 1 false) desk Moved
 took_on writing world past h slot child input a bytes desk at ready s run room sent whole = record {
   now = own h HostTake a ∷ past;
   at = at;
@@ -112,7 +112,7 @@ in_moved writing world past h slot child old new input at legal s run room turn 
     let (now, ready) = takes_at h world past old new (HasText n) at takes in
     let short = short_taken h world past n (legal_at h world (own h HostTake (HasText n) ∷ past) new now legal) in
     let (texts, calls) = texts_one h world past old new turn.half.more n at now turn.half.seen short in
-    let whole = sent_whole (Rose child.input.faults input.faults) (texts_taken (past_of new) turn.half.more) turn.half.bytes (ends_by_write (calls_in turn.half.more) || false) turn.half.frames (ap (λ cs. ends_by_write cs || false) calls) in
+    let whole = sent_whole (Rose child.input.faults input.faults) (texts_of_takes (past_of new) turn.half.more) turn.half.bytes (ends_by_write (calls_in turn.half.more) || false) turn.half.frames (ap (λ cs. ends_by_write cs || false) calls) in
     took_on writing world past h slot child input (HasText n) turn.half.bytes new now ready s run room turn.half.sent (whole ∙ ap frames texts)
 
 added_none : (sent : Option (List ℕ)) → sent ≡ added sent []
@@ -145,7 +145,7 @@ in_waits writing world past h slot child old new input at s run turn =
 -- what is told of a child that could not be written to
 told_unwritten : (writing : Option Writing) (world : WorldLists) (before : List Entry) (h : HostNo) (r old : HostRecord) (program : Option Program) (sent now : Option (List ℕ)) (stream : Option Stream) (failed : Type 0) (taken texts : List (List ℕ)) (bytes : List ℕ) (stopped : Bool) (b : Answer) → has_ended before h ≡ false → program_of world before h ≡ program → taken_by h before ≡ taken ++ texts
     → AllFit LONGEST_SAID (said_by h before) → IsStartedRecord writing program old → PipesTold writing program taken (said_by h before) sent stream → now ≡ added sent bytes → (failed → 0 < r.failed_writes) → Sends failed texts bytes stopped
-    → Told (MeetsAccount world (own h (HostEnded WriteFailed) b ∷ before) h r) writing (with_bytes old.account now stream)
+    → ToldAccount (MeetsAccount world (own h (HostEnded WriteFailed) b ∷ before) h r) writing (with_bytes old.account now stream)
 told_unwritten (Some w) world before h r old (Some p) (Some sent) now (Some stream) failed taken texts bytes stopped b un its_own is_taken fit starts told is counted sends =
     let after : List Entry = own h (HostEnded WriteFailed) b ∷ before in
     let account : Account = record { program = Some p; read = stream.read; sent = sent ++ bytes } in
@@ -165,17 +165,17 @@ told_unwritten (Some w) world before h r old (Some p) (Some sent) now (Some stre
       said_first = sym (append-nil (said_by h before));
       cause = tt;
     } in
-    let M : Option Account → Type 0 = λ a. Told (MeetsAccount world after h r) (Some w) (with_bytes a now (Some stream)) in
-    let N : Option (List ℕ) → Type 0 = λ n. Told (MeetsAccount world after h r) (Some w) (with_bytes (Some (record { program = Some p; read = []; sent = [] })) n (Some stream)) in
+    let M : Option Account → Type 0 = λ a. ToldAccount (MeetsAccount world after h r) (Some w) (with_bytes a now (Some stream)) in
+    let N : Option (List ℕ) → Type 0 = λ n. ToldAccount (MeetsAccount world after h r) (Some w) (with_bytes (Some (record { program = Some p; read = []; sent = [] })) n (Some stream)) in
     subst M (sym starts.account) (subst N (sym is) (account_ended world before h r w account WriteFailed b p un its_own refl leaves))
 told_unwritten None world before h r old (Some p) None now None failed taken texts bytes stopped b un its_own is_taken fit starts told is counted sends =
-    let M : Option Account → Type 0 = λ a. Told (MeetsAccount world (own h (HostEnded WriteFailed) b ∷ before) h r) None (with_bytes a now None) in
+    let M : Option Account → Type 0 = λ a. ToldAccount (MeetsAccount world (own h (HostEnded WriteFailed) b ∷ before) h r) None (with_bytes a now None) in
     subst M (sym starts.account) tt
 told_unwritten _ world before h r old _ _ now _ failed taken texts bytes stopped b un its_own is_taken fit starts told is counted sends = absurd told
 
 -- the record of a host that could not be written to meets the journal
 meets_unwritten : (writing : Option Writing) (world : WorldLists) (past : List Entry) (h : HostNo) (slot : SlotState) (child : ChildState) (input : InState) (n : EntryNo) (b : Answer) (bytes : List ℕ) (stopped : Bool) → StandsRunning writing world past h slot child → is_host_ready past h ≡ true
-    → input.sent ≡ added child.input.sent bytes → Rose child.input.faults input.faults → Sends (Rose child.input.faults input.faults) (text_taken past HostTake (HasText n)) bytes stopped
+    → input.sent ≡ added child.input.sent bytes → Rose child.input.faults input.faults → Sends (Rose child.input.faults input.faults) (text_of_take past HostTake (HasText n)) bytes stopped
     → MeetsStarted writing world (own h (HostEnded WriteFailed) b ∷ own h HostTake (HasText n) ∷ past) h (closing_record (behind_turn slot (with_input child input) 2 true))
 meets_unwritten writing world past h slot child input n b bytes stopped run ready sent rose sends =
     let take : Entry = own h HostTake (HasText n) in
@@ -185,10 +185,10 @@ meets_unwritten writing world past h slot child input n b bytes stopped run read
     let said : said_by h before ≡ said_by h past = said_own h HostTake (HasText n) past ∙ append-nil (said_by h past) in
     let F : List (List ℕ) → Type 0 = AllFit LONGEST_SAID in
     let S : List (List ℕ) → Type 0 = λ ts. PipesTold writing (program_of world past h) (taken_by h past) ts child.input.sent child.output.stream in
-    let unended : has_ended before h ≡ false = ended_own h HostTake (HasText n) past run.not_over in
+    let unended : has_ended before h ≡ false = ended_own h HostTake (HasText n) past run.host_unended in
     let counted : 0 < r.failed_writes = (let none = run.starter_record.no_writes in omega (arith, none, rose)) in
     meets_ended writing world before h r WriteFailed b unended (run.in_place, λ _. ready) tt counted
-    (told_unwritten writing world before h r slot.starter.slot (program_of world past h) child.input.sent input.sent child.output.stream (Rose child.input.faults input.faults) (taken_by h past) (text_taken past HostTake (HasText n)) bytes stopped b unended
+    (told_unwritten writing world before h r slot.starter.slot (program_of world past h) child.input.sent input.sent child.output.stream (Rose child.input.faults input.faults) (taken_by h past) (text_of_take past HostTake (HasText n)) bytes stopped b unended
     (program_later world past take h p is ∙ sym is) (taken_own h HostTake (HasText n) past) (subst F (sym said) run.runs.fit) run.starter_record (subst S (sym said) run.runs.pipes) sent (λ _. counted) sends)
 
 pub in_ended : (writing : Option Writing) (world : WorldLists) (past : List Entry) (h : HostNo) (slot : SlotState) (child : ChildState) (old new : DeskState) (input : InState) → IsAt h world past old → EachAfter (FollowsMachine world) (past_of new) → Stands writing world past h slot → StandsRunning writing world past h slot child → slot.made < 65536
@@ -211,8 +211,8 @@ in_ended writing world past h slot child old new input at legal s run room turn 
       now = after;
       at = now;
       served = record {
-        turn = not_written ready before (record { answer = HasText n; made = refl }) (record { answer = b; made = refl });
-        stands = is_over writing world before h slot (with_input child input) 2 WriteFailed b s.same_writing (omega (arith, made, counted)) (ended_own h HostTake (HasText n) past run.not_over) meets;
+        turn = not_written ready before (record { text = n; made = refl }) (record { answer = b; made = refl });
+        stands = is_over writing world before h slot (with_input child input) 2 WriteFailed b s.same_writing (omega (arith, made, counted)) (ended_own h HostTake (HasText n) past run.host_unended) meets;
         started = was_started_by slot (with_input child input) 2 true;
         came = fewer_left slot child (with_input child input) 2 true run.has_child run.unended room (omega arith);
       };

@@ -15,7 +15,7 @@ use Rattle.wx_machine.specs.Contexts.{context_of, enters, if_numbered}
 use Rattle.wx_machine.specs.Hosts.{Start, starts, hosts, is_by_host}
 use Rattle.wx_machine.specs.Texts.{has_ended, is_host_end}
 use Rattle.wx_broker.specs.Views.{view_for, view_of}
-use Rattle.wx_host_launch.specs.Halves.{text_taken, text_said}
+use Rattle.wx_host_launch.specs.Halves.{text_of_take, text_said}
 use Rattle.wx_host_launch.specs.Records.{Program}
 use Rattle.wx_host_launch.proofs.HostLemmas.{get-append}
 use Rattle.wx_host_slot.specs.Journals.{entries_of, taken_by, said_by, EachOf, program_at, program_of}
@@ -47,7 +47,7 @@ pub entries_others : (e : Entry) (past : List Entry) (h : HostNo) → is_by_host
 entries_others e past h other = ap (λ b. cond b 1 0 + entries_of h past) other ∙ omega arith
 
 pub taken_others : (e : Entry) (past : List Entry) (h : HostNo) → is_by_host e.who h ≡ false → taken_by h (e ∷ past) ≡ taken_by h past
-taken_others e past h other = ap (λ b. taken_by h past ++ cond b (text_taken past e.call e.answer) []) other ∙ append-nil (taken_by h past)
+taken_others e past h other = ap (λ b. taken_by h past ++ cond b (text_of_take past e.call e.answer) []) other ∙ append-nil (taken_by h past)
 
 pub said_others : (e : Entry) (past : List Entry) (h : HostNo) → is_by_host e.who h ≡ false → said_by h (e ∷ past) ≡ said_by h past
 said_others e past h other = ap (λ b. said_by h past ++ cond b (text_said e.call) []) other ∙ append-nil (said_by h past)
@@ -104,8 +104,8 @@ is_own h = eq-eqb h.0 h.0 refl
 pub entries_own : (h : HostNo) (call : Call) (a : Answer) (past : List Entry) → entries_of h (own h call a ∷ past) ≡ entries_of h past + 1
 entries_own h call a past = ap (λ b. cond b 1 0 + entries_of h past) (is_own h) ∙ omega arith
 
-pub taken_own : (h : HostNo) (call : Call) (a : Answer) (past : List Entry) → taken_by h (own h call a ∷ past) ≡ taken_by h past ++ text_taken past call a
-taken_own h call a past = ap (λ b. taken_by h past ++ cond b (text_taken past call a) []) (is_own h)
+pub taken_own : (h : HostNo) (call : Call) (a : Answer) (past : List Entry) → taken_by h (own h call a ∷ past) ≡ taken_by h past ++ text_of_take past call a
+taken_own h call a past = ap (λ b. taken_by h past ++ cond b (text_of_take past call a) []) (is_own h)
 
 pub said_own : (h : HostNo) (call : Call) (a : Answer) (past : List Entry) → said_by h (own h call a ∷ past) ≡ said_by h past ++ text_said call
 said_own h call a past = ap (λ b. said_by h past ++ cond b (text_said call) []) (is_own h)

@@ -26,9 +26,9 @@ use Rattle.wx_host_launch.specs.Steps.{DeskState}
 use Rattle.wx_host_launch.specs.Turns.{IsOutTurn}
 use Rattle.wx_host_launch.specs.declared.turns.OutTurn.TheVariants as out
 use Rattle.wx_host_slot.specs.Journals.{entries_of, taken_by, said_by, program_of}
-use Rattle.wx_host_slot.specs.Meets.{IsHeard, ToldCause, CountedCause, MeetsAccount, Told}
-use Rattle.wx_host_slot.specs.Slots.{ChildState, SlotState, PipesTold, IsStartedRecord, Runs, StandsRunning, Stands, HasSpoken}
-use Rattle.wx_host_slot.specs.Turns.{said, ended}
+use Rattle.wx_host_slot.specs.Meets.{IsHeard, ToldCause, CountedCause, MeetsAccount, ToldAccount}
+use Rattle.wx_host_slot.specs.Slots.{ChildState, SlotState, PipesTold, IsStartedRecord, Runs, StandsRunning, Stands, HasSaidOrEnded}
+use Rattle.wx_host_slot.specs.Turns.{IsHeardEnd, said, ended}
 use Rattle.wx_host_slot.proofs.JournalLemmas.{own, taken_own, said_own, program_later}
 use Rattle.wx_host_slot.proofs.StandsLater.{pipes_program, runs_by}
 use Rattle.wx_host_slot.proofs.DeskLemmas.{IsAt, past_at, one_at, ends_at, text_at, more_at, words_own}
@@ -43,7 +43,7 @@ with_output child output reader = record { input = child.input; output = output;
 pub record Speaks (writing : Option Writing) (world : WorldLists) (h : HostNo) (past : List Entry) (slot after : SlotState) (desk : DeskState) : Type 0 where
   pub now : List Entry
   pub at : IsAt h world now desk
-  pub spoken : HasSpoken writing world h past now slot after
+  pub spoken : HasSaidOrEnded writing world h past now slot after
 
 -- Nothing to take
 
@@ -141,7 +141,7 @@ split_end texts before now bytes rest fit is grown h = record {
 -- what is told of a child by whose end its host ends
 told_ended : (writing : Option Writing) (world : WorldLists) (past : List Entry) (h : HostNo) (r old : HostRecord) (program : Option Program) (sent : Option (List ℕ)) (before now : OutState) (all_said : Type 0) (closed : Bool) (bytes rest : List ℕ) (reason : Reason) (a : Answer) → has_ended past h ≡ false → program_of world past h ≡ program → AllFit LONGEST_SAID (said_by h past)
     → IsStartedRecord writing program old → (was is : Option Stream) → before.stream ≡ was → now.stream ≡ is → PipesTold writing program (taken_by h past) (said_by h past) sent was → Gives was is bytes → IsSplit LONGEST_SAID bytes [] rest → IsCause all_said rest before now closed reason
-    → Told (MeetsAccount world (own h (HostEnded reason) a ∷ past) h r) writing (with_bytes old.account sent is)
+    → ToldAccount (MeetsAccount world (own h (HostEnded reason) a ∷ past) h r) writing (with_bytes old.account sent is)
 told_ended (Some w) world past h r old (Some p) (Some sent) before now all_said closed bytes rest reason a un its_own fit starts (Some was) (Some is) was_is is_is told given split cause =
     let account : Account = record { program = Some p; read = is.read; sent = sent } in
     let heard : IsHeard (w p.path) is.read = record {
@@ -159,13 +159,24 @@ told_ended (Some w) world past h r old (Some p) (Some sent) before now all_said 
       said_first = sym (append-nil (said_by h past));
       cause = told_cause (w p.path) is.read heard account all_said before now closed reason cause none;
     } in
-    let M : Option Account → Type 0 = λ x. Told (MeetsAccount world (own h (HostEnded reason) a ∷ past) h r) (Some w) (with_bytes x (Some sent) (Some is)) in
+    let M : Option Account → Type 0 = λ x. ToldAccount (MeetsAccount world (own h (HostEnded reason) a ∷ past) h r) (Some w) (with_bytes x (Some sent) (Some is)) in
     subst M (sym starts.account) (account_ended world past h r w account reason a p un its_own refl leaves)
 told_ended (Some w) world past h r old (Some p) (Some sent) before now all_said closed bytes rest reason a un its_own fit starts (Some was) None was_is is_is told given split cause = absurd given
 told_ended None world past h r old (Some p) None before now all_said closed bytes rest reason a un its_own fit starts None is was_is is_is told given split cause =
-    let M : Option Account → Type 0 = λ x. Told (MeetsAccount world (own h (HostEnded reason) a ∷ past) h r) None (with_bytes x None is) in
+    let M : Option Account → Type 0 = λ x. ToldAccount (MeetsAccount world (own h (HostEnded reason) a ∷ past) h r) None (with_bytes x None is) in
     subst M (sym starts.account) tt
 told_ended _ world past h r old _ _ before now all_said closed bytes rest reason a un its_own fit starts _ is was_is is_is told given split cause = absurd told
+
+-- a host that is heard ends by its output, or as its channel was closed
+heard_end : (all_said : Type 0) (rest : List ℕ) (before now : OutState) (closed : Bool) (reason : Reason) → IsCause all_said rest before now closed reason → IsHeardEnd reason
+heard_end all_said rest before now closed StartFailed (all, cause) = cause
+heard_end all_said rest before now closed ReadFailed cause = tt
+heard_end all_said rest before now closed WriteFailed (all, cause) = cause
+heard_end all_said rest before now closed (TooLong n) cause = tt
+heard_end all_said rest before now closed (BadJson place kind) cause = tt
+heard_end all_said rest before now closed (Cut have) cause = tt
+heard_end all_said rest before now closed Exited cause = tt
+heard_end all_said rest before now closed Closed cause = tt
 
 pub out_ended : (writing : Option Writing) (world : WorldLists) (past : List Entry) (h : HostNo) (slot : SlotState) (child : ChildState) (old new : DeskState) (output : OutState) (reader : Unfinished) → IsAt h world past old → Stands writing world past h slot → StandsRunning writing world past h slot child → slot.made < 65536
     → IsOutTurn old new child.reader reader child.output output out.Ended → Speaks writing world h past slot (behind_turn slot (with_output child output reader) 1 true) new
@@ -189,11 +200,11 @@ out_ended writing world past h slot child old new output reader at s run room tu
       now = after;
       at = now;
       spoken = record {
-        turn = ended reason (record { answer = a; made = refl });
-        stands = is_over writing world past h slot next 1 reason a s.same_writing (ap (λ n. n + 1) counted) run.not_over
-            (meets_ended writing world past h r reason a run.not_over run.in_place (leaves_none h past reason none)
+        turn = ended reason (heard_end All half.rest child.output output (last_said_closed past h) reason cause) (record { answer = a; made = refl });
+        stands = is_over writing world past h slot next 1 reason a s.same_writing (ap (λ n. n + 1) counted) run.host_unended
+            (meets_ended writing world past h r reason a run.host_unended run.in_place (leaves_none h past reason none)
             (counted_cause h (entries_of h past + 1) r past All half.rest child.output output reason cause counts)
-            (told_ended writing world past h r slot.starter.slot (program_of world past h) child.input.sent child.output output All (last_said_closed past h) half.bytes half.rest reason a run.not_over refl run.runs.fit run.starter_record child.output.stream output.stream refl refl run.runs.pipes half.given split cause));
+            (told_ended writing world past h r slot.starter.slot (program_of world past h) child.input.sent child.output output All (last_said_closed past h) half.bytes half.rest reason a run.host_unended refl run.runs.fit run.starter_record child.output.stream output.stream refl refl run.runs.pipes half.given split cause));
         started = was_started_by slot next 1 true;
         less = fewer_left slot child next 1 true run.has_child run.unended room (omega arith);
       };

@@ -31,7 +31,7 @@ use Rattle.wx_host_launch.specs.declared.turns.OutTurn.{OutTurn}
 use Rattle.wx_host_launch.specs.declared.turns.OutTurn.TheVariants as out
 use Rattle.wx_host_slot.specs.BrokerDesks.{desk_over}
 use Rattle.wx_host_slot.specs.Journals.{program_of}
-use Rattle.wx_host_slot.specs.Slots.{ChildState, SlotState, SlotView, slot_of, StandsRunning, StandsAs, waiting, running, over, Stands, turns_left, CameTo, IsServed, IsStarted, HasSpoken}
+use Rattle.wx_host_slot.specs.Slots.{ChildState, SlotState, SlotView, slot_of, StandsRunning, StandsAs, waiting, running, at_end, Stands, turns_left, CameTo, IsServed, IsStarted, HasSaidOrEnded}
 use Rattle.wx_host_slot.specs.Turns.{HostTurn}
 use Rattle.wx_host_slot.specs.declared.slot.Served.{Served}
 use Rattle.wx_host_slot.specs.declared.slot.Served.TheVariants.{Moved, Rested}
@@ -57,7 +57,7 @@ running_of writing world past h slot child s unended has = by s.stands
     by : StandsAs writing world past h slot → StandsRunning writing world past h slot child
     by (waiting un empty is) = absurd (true≢false (ap is_some (sym has ∙ ap (λ (x : SlotState). x.child) is)))
     by (running c run) = (let R : ChildState → Type 0 = StandsRunning writing world past h slot in subst R (one c child (sym run.has_child ∙ has)) run)
-    by (over ended was meets) = absurd (true≢false (sym ended ∙ unended))
+    by (at_end ended was meets) = absurd (true≢false (sym ended ∙ unended))
 
 -- the turn of a host that has ended
 pub rests : (writing : Option Writing) (world : WorldLists) (past : List Entry) (h : HostNo) (slot : SlotState) → Stands writing world past h slot → slot.ended ≡ true → is_host_ready past h ≡ false
@@ -70,7 +70,7 @@ rests writing world past h slot s ended = by s.stands
     by : StandsAs writing world past h slot → is_host_ready past h ≡ false
     by (waiting un empty is) = absurd (true≢false (sym ended ∙ ap (λ (x : SlotState). x.ended) is))
     by (running c run) = absurd (true≢false (sym ended ∙ run.unended))
-    by (over over_ was meets) = not_now (has_ended past h) _ was
+    by (at_end ended was meets) = not_now (has_ended past h) _ was
 
 -- it stands so for its own starter's children
 pub own_writing : (writing : Option Writing) (world : WorldLists) (past : List Entry) (h : HostNo) (slot : SlotState) → Stands writing world past h slot → Stands slot.starter.writing world past h slot
@@ -137,21 +137,21 @@ serves_ended writing h old new slot child lent input t legal turn =
 
 -- A turn of the output
 
-spoken_over : (writing : Option Writing) (world : WorldLists) (past : List Entry) (h : HostNo) (slot after : SlotState) (broker : BrokerState) (lent : Option EntryNo) → Speaks writing world h past slot after (desk_over h broker lent) → HasSpoken writing world h past (reverse broker.entries) slot after
+spoken_over : (writing : Option Writing) (world : WorldLists) (past : List Entry) (h : HostNo) (slot after : SlotState) (broker : BrokerState) (lent : Option EntryNo) → Speaks writing world h past slot after (desk_over h broker lent) → HasSaidOrEnded writing world h past (reverse broker.entries) slot after
 spoken_over writing world past h slot after broker lent l =
-    let S : List Entry → Type 0 = λ now. HasSpoken writing world h past now slot after in
+    let S : List Entry → Type 0 = λ now. HasSaidOrEnded writing world h past now slot after in
     subst S (sym (one_past h h world l.now (reverse broker.entries) (desk_over h broker lent) l.at refl)) l.spoken
 
 pub speaks_moved : (writing : Option Writing) (h : HostNo) (old new : BrokerState) (slot : SlotState) (child : ChildState) (lent : Option EntryNo) (output : OutState) (reader : Unfinished) → TakesTurn writing h old slot child → reader.limit ≡ LONGEST_SAID → IsOutTurn (desk_over h old None) (desk_over h new lent) child.reader reader child.output output out.Moved
-    → HasSpoken writing old.world h (reverse old.entries) (reverse new.entries) slot (after_turn slot (with_output child output reader) 1)
+    → HasSaidOrEnded writing old.world h (reverse old.entries) (reverse new.entries) slot (after_turn slot (with_output child output reader) 1)
 speaks_moved writing h old new slot child lent output reader t limit turn =
     let past = reverse old.entries in
-    let S : Bool → Type 0 = λ b. HasSpoken writing old.world h past (reverse new.entries) slot (behind_turn slot (with_output child output reader) 1 b) in
+    let S : Bool → Type 0 = λ b. HasSaidOrEnded writing old.world h past (reverse new.entries) slot (behind_turn slot (with_output child output reader) 1 b) in
     subst S (sym t.runs.unended) (spoken_over writing old.world past h slot (behind_turn slot (with_output child output reader) 1 false) new lent
     (out_moved writing old.world past h slot child (desk_over h old None) (desk_over h new lent) output reader (at_first h old None) t.stands t.runs t.room limit turn))
 
 pub speaks_ended : (writing : Option Writing) (h : HostNo) (old new : BrokerState) (slot : SlotState) (child : ChildState) (lent : Option EntryNo) (output : OutState) (reader : Unfinished) → TakesTurn writing h old slot child → IsOutTurn (desk_over h old None) (desk_over h new lent) child.reader reader child.output output out.Ended
-    → HasSpoken writing old.world h (reverse old.entries) (reverse new.entries) slot (behind_turn slot (with_output child output reader) 1 true)
+    → HasSaidOrEnded writing old.world h (reverse old.entries) (reverse new.entries) slot (behind_turn slot (with_output child output reader) 1 true)
 speaks_ended writing h old new slot child lent output reader t turn =
     let past = reverse old.entries in
     spoken_over writing old.world past h slot (behind_turn slot (with_output child output reader) 1 true) new lent
@@ -159,7 +159,7 @@ speaks_ended writing h old new slot child lent output reader t turn =
 
 pub speaks_never_waits : (writing : Option Writing) (h : HostNo) (old new : BrokerState) (slot : SlotState) (child : ChildState) (lent : Option EntryNo) (output : OutState) (reader : Unfinished) → TakesTurn writing h old slot child → is_host_ready (reverse old.entries) h ≡ false → ¬ IsOutTurn (desk_over h old None) (desk_over h new lent) child.reader reader child.output output out.Waits
 speaks_never_waits writing h old new slot child lent output reader t ready turn =
-    never_waits h old.world (reverse old.entries) (desk_over h old None) (desk_over h new lent) child.reader reader child.output output (at_first h old None) ready t.runs.not_over turn
+    never_waits h old.world (reverse old.entries) (desk_over h old None) (desk_over h new lent) child.reader reader child.output output (at_first h old None) ready t.runs.host_unended turn
 
 -- A slot by its fields
 
@@ -239,24 +239,24 @@ taken_last {P} state h old new was slot child next came same has s unended room 
 -- it said a text
 pub heard_on : {P : Type 0} (state : P → StarterState) (h : HostNo) (old new : BrokerState) (was slot : SlotView P) (child next : ChildState) (came : OutTurn) → was ≡ slot → was.child ≡ Some child → Stands (state slot.starter).writing old.world (reverse old.entries) h (slot_of state slot) → slot.ended ≡ false → slot.made < 65536 → next.reader.limit ≡ LONGEST_SAID
     → (lent : Option EntryNo) × IsOutTurn (desk_over h old None) (desk_over h new lent) child.reader next.reader child.output next.output came → next ≡ with_output child next.output next.reader → came ≡ out.Moved
-    → HasSpoken (state slot.starter).writing old.world h (reverse old.entries) (reverse new.entries) (slot_of state slot) (slot_of state (record { starter = was.starter; child = Some next; made = was.made + 1; ended = was.ended }))
+    → HasSaidOrEnded (state slot.starter).writing old.world h (reverse old.entries) (reverse new.entries) (slot_of state slot) (slot_of state (record { starter = was.starter; child = Some next; made = was.made + 1; ended = was.ended }))
 heard_on {P} state h old new was slot child next came same has s unended room limit (lent, turn) next_is is =
     let writing = (state slot.starter).writing in
     let before = takes_turn state h old was slot child same has s unended room in
     let T : OutTurn → Type 0 = IsOutTurn (desk_over h old None) (desk_over h new lent) child.reader next.reader child.output next.output in
-    let S : SlotState → Type 0 = HasSpoken writing old.world h (reverse old.entries) (reverse new.entries) (slot_of state slot) in
+    let S : SlotState → Type 0 = HasSaidOrEnded writing old.world h (reverse old.entries) (reverse new.entries) (slot_of state slot) in
     let N : ChildState → Type 0 = λ c. S (after_turn (slot_of state slot) c 1) in
     put_back state was slot next 1 S same (subst N (sym next_is) (speaks_moved writing h old new (slot_of state slot) child lent next.output next.reader before limit (subst T is turn)))
 
 -- it ended
 pub heard_last : {P : Type 0} (state : P → StarterState) (h : HostNo) (old new : BrokerState) (was slot : SlotView P) (child next : ChildState) (came : OutTurn) → was ≡ slot → was.child ≡ Some child → Stands (state slot.starter).writing old.world (reverse old.entries) h (slot_of state slot) → slot.ended ≡ false → slot.made < 65536
     → (lent : Option EntryNo) × IsOutTurn (desk_over h old None) (desk_over h new lent) child.reader next.reader child.output next.output came → next ≡ with_output child next.output next.reader → came ≡ out.Ended
-    → HasSpoken (state slot.starter).writing old.world h (reverse old.entries) (reverse new.entries) (slot_of state slot) (slot_of state (record { starter = was.starter; child = Some next; made = was.made + 1; ended = true }))
+    → HasSaidOrEnded (state slot.starter).writing old.world h (reverse old.entries) (reverse new.entries) (slot_of state slot) (slot_of state (record { starter = was.starter; child = Some next; made = was.made + 1; ended = true }))
 heard_last {P} state h old new was slot child next came same has s unended room (lent, turn) next_is is =
     let writing = (state slot.starter).writing in
     let before = takes_turn state h old was slot child same has s unended room in
     let T : OutTurn → Type 0 = IsOutTurn (desk_over h old None) (desk_over h new lent) child.reader next.reader child.output next.output in
-    let S : SlotState → Type 0 = HasSpoken writing old.world h (reverse old.entries) (reverse new.entries) (slot_of state slot) in
+    let S : SlotState → Type 0 = HasSaidOrEnded writing old.world h (reverse old.entries) (reverse new.entries) (slot_of state slot) in
     let N : ChildState → Type 0 = λ c. S (behind_turn (slot_of state slot) c 1 true) in
     put_back_ended state was slot next 1 S same (subst N (sym next_is) (speaks_ended writing h old new (slot_of state slot) child lent next.output next.reader before (subst T is turn)))
 

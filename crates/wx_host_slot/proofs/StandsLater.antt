@@ -16,8 +16,8 @@ use Rattle.wx_host_launch.specs.Halves.{Sends, whole}
 use Rattle.wx_host_launch.specs.Pipes.{Stream}
 use Rattle.wx_host_launch.specs.Records.{Program, Account, HostRecord, Writing, StarterState, slot_like, with_bytes, finished}
 use Rattle.wx_host_slot.specs.Journals.{entries_of, taken_by, said_by, EachOf, IsInPlace, program_of}
-use Rattle.wx_host_slot.specs.Meets.{IsHeard, ToldEnd, CountedEnd, MeetsAccount, Told, MeetsStarted, Meets, was_started, never_started}
-use Rattle.wx_host_slot.specs.Slots.{ChildState, SlotState, waiting_slot, record_behind, closing_record, PipesTold, Runs, IsStartedRecord, StandsRunning, StandsAs, waiting, running, over, Stands}
+use Rattle.wx_host_slot.specs.Meets.{IsHeard, ToldEnd, CountedEnd, MeetsAccount, ToldAccount, MeetsStarted, Meets, was_started, never_started}
+use Rattle.wx_host_slot.specs.Slots.{ChildState, SlotState, waiting_slot, record_behind, closing_record, PipesTold, Runs, IsStartedRecord, StandsRunning, StandsAs, waiting, running, at_end, Stands}
 use Rattle.wx_host_slot.proofs.JournalLemmas.{each_unended, entries_others, taken_others, said_others, ended_others, each_others, none_ended, program_later}
 
 -- Where a child's pipe tells, its program is known
@@ -55,7 +55,7 @@ running_later writing world past e h slot child other s =
     record {
       has_child = s.has_child;
       unended = s.unended;
-      not_over = ended_others e past h other ∙ s.not_over;
+      host_unended = ended_others e past h other ∙ s.host_unended;
       starter_record = subst R (sym program) s.starter_record;
       runs = runs_by writing world (e ∷ past) h child (program_of world past h) (taken_by h past) (said_by h past) program (taken_others e past h other) (said_others e past h other) s.runs.limit s.runs.none_in_hand s.runs.fit s.runs.pipes;
       in_place = each_others (IsInPlace h) e past h other s.in_place;
@@ -75,7 +75,7 @@ account_later world past e h r writing account other m =
       ends = each_others (ToldEnd m.heard m.unsaid account) e past h other m.ends;
     }
 
-told_map : (P Q : Writing → Account → Type 0) (writing : Option Writing) (account : Option Account) → ((w : Writing) (a : Account) → P w a → Q w a) → Told P writing account → Told Q writing account
+told_map : (P Q : Writing → Account → Type 0) (writing : Option Writing) (account : Option Account) → ((w : Writing) (a : Account) → P w a → Q w a) → ToldAccount P writing account → ToldAccount Q writing account
 told_map P Q None None f told = tt
 told_map P Q (Some w) (Some a) f told = f w a told
 told_map P Q None (Some a) f told = absurd told
@@ -93,7 +93,7 @@ meets_later writing world past e h r other m =
 as_later : (writing : Option Writing) (world : WorldLists) (past : List Entry) (e : Entry) (h : HostNo) (slot : SlotState) → is_by_host e.who h ≡ false → StandsAs writing world past h slot → StandsAs writing world (e ∷ past) h slot
 as_later writing world past e h slot other (waiting unended empty is) = waiting (ended_others e past h other ∙ unended) empty is
 as_later writing world past e h slot other (running child s) = running child (running_later writing world past e h slot child other s)
-as_later writing world past e h slot other (over ended was meets) = over ended (ended_others e past h other ∙ was) (meets_later writing world past e h (closing_record slot) other meets)
+as_later writing world past e h slot other (at_end ended was meets) = at_end ended (ended_others e past h other ∙ was) (meets_later writing world past e h (closing_record slot) other meets)
 
 -- A slot stands as it stood behind an entry of others.
 pub stands_later : (writing : Option Writing) (world : WorldLists) (past : List Entry) (e : Entry) (h : HostNo) (slot : SlotState) → h.0 < length (hosts past) → is_by_host e.who h ≡ false → Stands writing world past h slot → Stands writing world (e ∷ past) h slot
@@ -115,7 +115,7 @@ told_unended writes read heard unsaid account before _ un = tt
 
 -- what runs is told as it stands
 told_running : (writing : Option Writing) (world : WorldLists) (past : List Entry) (h : HostNo) (r : HostRecord) (old : HostRecord) (program : Option Program) (sent : Option (List ℕ)) (stream : Option Stream) → has_ended past h ≡ false → program_of world past h ≡ program → AllFit LONGEST_SAID (said_by h past)
-    → IsStartedRecord writing program old → PipesTold writing program (taken_by h past) (said_by h past) sent stream → Told (MeetsAccount world past h r) writing (with_bytes old.account sent stream)
+    → IsStartedRecord writing program old → PipesTold writing program (taken_by h past) (said_by h past) sent stream → ToldAccount (MeetsAccount world past h r) writing (with_bytes old.account sent stream)
 told_running (Some w) world past h r old (Some p) (Some sent) (Some stream) un is fit starts told =
     let account : Account = record { program = Some p; read = stream.read; sent = sent } in
     let heard : IsHeard (w p.path) stream.read = record {
@@ -125,7 +125,7 @@ told_running (Some w) world past h r old (Some p) (Some sent) (Some stream) un i
       rest = [];
       split = record { fit = fit; stream_is = told.1 ∙ sym (append-nil _); no_frame = (short_under_way [] LONGEST_SAID (omega arith)).no_frame };
     } in
-    let M : Option Account → Type 0 = λ a. Told (MeetsAccount world past h r) (Some w) (with_bytes a (Some sent) (Some stream)) in
+    let M : Option Account → Type 0 = λ a. ToldAccount (MeetsAccount world past h r) (Some w) (with_bytes a (Some sent) (Some stream)) in
     subst M (sym starts.account) (record {
       program = p;
       its_own = is;
@@ -137,7 +137,7 @@ told_running (Some w) world past h r old (Some p) (Some sent) (Some stream) un i
       ends = each_unended (ToldEnd heard [] account) h past (λ before call. told_unended (w p.path) stream.read heard [] account before call) un;
     })
 told_running None world past h r old (Some p) None None un is fit starts told =
-    let M : Option Account → Type 0 = λ a. Told (MeetsAccount world past h r) None (with_bytes a None None) in
+    let M : Option Account → Type 0 = λ a. ToldAccount (MeetsAccount world past h r) None (with_bytes a None None) in
     subst M (sym starts.account) tt
 told_running _ world past h r old _ _ _ un is fit starts told = absurd told
 
@@ -147,8 +147,8 @@ meets_running writing world past h slot child s =
     let r = finished slot.starter.slot child.input child.output in
     record {
       in_place = s.in_place;
-      counted = each_unended (CountedEnd h (entries_of h past) r) h past (λ before call. counted_unended h (entries_of h past) r before call) s.not_over;
-      told = told_running writing world past h r slot.starter.slot (program_of world past h) child.input.sent child.output.stream s.not_over refl s.runs.fit s.starter_record s.runs.pipes;
+      counted = each_unended (CountedEnd h (entries_of h past) r) h past (λ before call. counted_unended h (entries_of h past) r before call) s.host_unended;
+      told = told_running writing world past h r slot.starter.slot (program_of world past h) child.input.sent child.output.stream s.host_unended refl s.runs.fit s.starter_record s.runs.pipes;
     }
 
 as_at_end : (spent : Type 0) (writing : Option Writing) (world : WorldLists) (past : List Entry) (h : HostNo) (slot : SlotState) → slot.made ≡ entries_of h past → StandsAs writing world past h slot → (has_ended past h ≡ false → spent) → Meets spent writing world past h (closing_record slot)
@@ -158,7 +158,7 @@ as_at_end spent writing world past h slot counted (waiting unended empty is) cau
 as_at_end spent writing world past h slot counted (running child s) cause =
     let M : Option ChildState → Type 0 = λ c. MeetsStarted writing world past h (record_behind slot.starter.slot c) in
     was_started (subst M (sym s.has_child) (meets_running writing world past h slot child s))
-as_at_end spent writing world past h slot counted (over ended was meets) cause = was_started meets
+as_at_end spent writing world past h slot counted (at_end ended was meets) cause = was_started meets
 
 -- At a run's end the record that a slot leaves meets the journal.
 pub meets_at_end : (spent : Type 0) (writing : Option Writing) (world : WorldLists) (past : List Entry) (h : HostNo) (slot : SlotState) → Stands writing world past h slot → (has_ended past h ≡ false → spent) → Meets spent writing world past h (closing_record slot)

@@ -27,8 +27,8 @@ use Rattle.wx_host_launch.specs.Halves.{Sends, whole}
 use Rattle.wx_host_launch.specs.Pipes.{InState, OutState}
 use Rattle.wx_host_launch.specs.Records.{Program, Account, HostRecord, Writing, empty_account, empty_record, started, starting, AreFresh}
 use Rattle.wx_host_slot.specs.Journals.{entries_of, taken_by, said_by, IsInPlace, program_at, program_of}
-use Rattle.wx_host_slot.specs.Meets.{IsHeard, MeetsAccount, Told}
-use Rattle.wx_host_slot.specs.Slots.{ChildState, SlotState, PipesTold, IsStartedRecord, Runs, StandsAs, waiting, running, over, Stands, host_limit, left_with, turns_left, IsStarted}
+use Rattle.wx_host_slot.specs.Meets.{IsHeard, MeetsAccount, ToldAccount}
+use Rattle.wx_host_slot.specs.Slots.{ChildState, SlotState, PipesTold, IsStartedRecord, Runs, StandsAs, waiting, running, at_end, Stands, host_limit, left_with, turns_left, IsStarted}
 use Rattle.wx_host_slot.specs.Turns.{not_started}
 use Rattle.wx_host_slot.proofs.JournalLemmas.{own, none_ended, none_taken, none_said, none_each, entries_own, ended_own}
 use Rattle.wx_host_slot.proofs.StandsLater.{runs_by}
@@ -106,7 +106,7 @@ waits_of writing world past h slot s unended none = by s.stands
     by : StandsAs writing world past h slot → Waits writing past h slot
     by (waiting un empty is) = record { empty = empty; none_made = ap (λ (x : SlotState). x.made) is; no_entries = sym s.counted ∙ ap (λ (x : SlotState). x.made) is }
     by (running child run) = absurd (true≢false (ap is_some (sym run.has_child ∙ none)))
-    by (over ended was meets) = absurd (true≢false (sym ended ∙ unended))
+    by (at_end ended was meets) = absurd (true≢false (sym ended ∙ unended))
 
 waiting_left : (slot : SlotState) → slot.ended ≡ false → slot.child ≡ None → turns_left slot ≡ host_limit + 4
 waiting_left slot unended none = ap (λ b. left_with b slot.child slot.made) unended ∙ ap (λ c. left_with false c slot.made) none
@@ -153,7 +153,7 @@ start_runs world past h slot p n input output reader s unended none is fresh lim
         stands = running child (record {
           has_child = refl;
           unended = unended;
-          not_over = none_ended past h w.no_entries;
+          host_unended = none_ended past h w.no_entries;
           starter_record = subst R (sym is) (record {
             account = ap (λ (r : HostRecord). option_map (started p.path p.arguments) r.account) w.empty ∙ started_account writing p;
             no_reads = ap (λ (r : HostRecord). r.failed_reads) w.empty;
@@ -172,7 +172,7 @@ start_runs world past h slot p n input output reader s unended none is fresh lim
 -- It could not be started
 
 failed_told : (writing : Option Writing) (world : WorldLists) (past : List Entry) (h : HostNo) (r : HostRecord) (p : Program) (a : Answer) → entries_of h past ≡ 0 → program_of world past h ≡ Some p
-    → Told (MeetsAccount world (own h (HostEnded StartFailed) a ∷ past) h r) writing (option_map (λ w. record empty_account { program = Some p }) writing)
+    → ToldAccount (MeetsAccount world (own h (HostEnded StartFailed) a ∷ past) h r) writing (option_map (λ w. record empty_account { program = Some p }) writing)
 failed_told None world past h r p a none is = tt
 failed_told (Some w) world past h r p a none is =
     let account : Account = record { program = Some p; read = []; sent = [] } in
@@ -201,16 +201,16 @@ start_fails world past h slot p n a s unended none is rose =
     let un = none_ended past h w.no_entries in
     let before = waiting_left slot unended none in
     let account : r.account ≡ option_map (λ w. record empty_account { program = Some p }) writing = ap (λ (x : HostRecord). option_map (started p.path p.arguments) x.account) w.empty ∙ started_account writing p in
-    let M : Option Account → Type 0 = Told (MeetsAccount world (own h (HostEnded StartFailed) a ∷ past) h r) writing in
+    let M : Option Account → Type 0 = ToldAccount (MeetsAccount world (own h (HostEnded StartFailed) a ∷ past) h r) writing in
     let meets = meets_ended writing world past h r StartFailed a un (none_each (IsInPlace h) past h w.no_entries) tt (omega (arith, rose), omega (arith, no_entries)) (subst M (sym account) (failed_told writing world past h r p a w.no_entries is)) in
     record {
       stands = record {
         same_writing = refl;
         counted = sym (entries_own h (HostEnded StartFailed) a past ∙ ap (λ n. n + 1) w.no_entries);
-        stands = over refl (ended_own h (HostEnded StartFailed) a past un) meets;
+        stands = at_end refl (ended_own h (HostEnded StartFailed) a past un) meets;
       };
       started = λ e. absurd (true≢false e);
       less = omega (arith, before);
-      turn = λ _. not_started un (record { answer = a; made = refl });
+      turn = λ _. not_started w.no_entries (record { answer = a; made = refl });
       no_entry = λ e. absurd (true≢false e);
     }

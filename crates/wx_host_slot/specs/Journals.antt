@@ -13,7 +13,7 @@ use Rattle.wx_machine.specs.Hosts.{is_by_host}
 use Rattle.wx_machine.specs.Texts.{next_text}
 use Rattle.wx_broker.specs.declared.host_view.HostView.{HostView}
 use Rattle.wx_broker.specs.Views.{host_view}
-use Rattle.wx_host_launch.specs.Halves.{text_taken, text_said}
+use Rattle.wx_host_launch.specs.Halves.{text_of_take, text_said}
 use Rattle.wx_host_launch.specs.Records.{Program}
 
 -- how many entries host h made
@@ -24,7 +24,7 @@ entries_of h (e ∷ past) = cond (is_by_host e.who h) 1 0 + entries_of h past
 -- the texts that host h took, the first first
 abbrev pub taken_by : HostNo → List Entry → List (List ℕ)
 taken_by h [] = []
-taken_by h (e ∷ past) = taken_by h past ++ cond (is_by_host e.who h) (text_taken past e.call e.answer) []
+taken_by h (e ∷ past) = taken_by h past ++ cond (is_by_host e.who h) (text_of_take past e.call e.answer) []
 
 -- the texts that it said
 abbrev pub said_by : HostNo → List Entry → List (List ℕ)

@@ -72,17 +72,17 @@ pub record MeetsAccount (world : WorldLists) (past : List Entry) (h : HostNo) (r
   pub ends : EachOf h (ToldEnd heard unsaid account) past
 
 -- the account is told where the starter tells what children write, and meets the journal
-abbrev pub Told : (Writing → Account → Type 0) → Option Writing → Option Account → Type 0
-Told P None None = Unit {0}
-Told P (Some writing) (Some account) = P writing account
-Told P None (Some account) = ⊥
-Told P (Some writing) None = ⊥
+abbrev pub ToldAccount : (Writing → Account → Type 0) → Option Writing → Option Account → Type 0
+ToldAccount P None None = Unit {0}
+ToldAccount P (Some writing) (Some account) = P writing account
+ToldAccount P None (Some account) = ⊥
+ToldAccount P (Some writing) None = ⊥
 
 -- The record of a host that was started, or was to be, meets the journal.
 pub record MeetsStarted (writing : Option Writing) (world : WorldLists) (past : List Entry) (h : HostNo) (r : HostRecord) : Type 0 where
   pub in_place : EachOf h (IsInPlace h) past
   pub counted : EachOf h (CountedEnd h (entries_of h past) r) past
-  pub told : Told (MeetsAccount world past h r) writing r.account
+  pub told : ToldAccount (MeetsAccount world past h r) writing r.account
 
 -- Host h's record meets the journal. Only where the run was spent may the host have no entry, and an empty record.
 pub data Meets (spent : Type 0) (writing : Option Writing) (world : WorldLists) (past : List Entry) (h : HostNo) (r : HostRecord) : Type 0 where

@@ -81,7 +81,7 @@ pub record IsStartedRecord (writing : Option Writing) (program : Option Program)
 pub record StandsRunning (writing : Option Writing) (world : WorldLists) (past : List Entry) (h : HostNo) (slot : SlotState) (child : ChildState) : Type 0 where
   pub has_child : slot.child ≡ Some child
   pub unended : slot.ended ≡ false
-  pub not_over : has_ended past h ≡ false
+  pub host_unended : has_ended past h ≡ false
   pub starter_record : IsStartedRecord writing (program_of world past h) slot.starter.slot
   pub runs : Runs writing world past h child
   pub in_place : EachOf h (IsInPlace h) past
@@ -91,7 +91,7 @@ pub record StandsRunning (writing : Option Writing) (world : WorldLists) (past :
 pub data StandsAs (writing : Option Writing) (world : WorldLists) (past : List Entry) (h : HostNo) (slot : SlotState) : Type 0 where
   waiting : has_ended past h ≡ false → slot.starter.slot ≡ empty_record writing → slot ≡ waiting_slot slot.starter → StandsAs writing world past h slot
   running : (child : ChildState) → StandsRunning writing world past h slot child → StandsAs writing world past h slot
-  over : slot.ended ≡ true → has_ended past h ≡ true → MeetsStarted writing world past h (closing_record slot) → StandsAs writing world past h slot
+  at_end : slot.ended ≡ true → has_ended past h ≡ true → MeetsStarted writing world past h (closing_record slot) → StandsAs writing world past h slot
 
 -- The slot is host h's, and stands so.
 pub record Stands (writing : Option Writing) (world : WorldLists) (past : List Entry) (h : HostNo) (slot : SlotState) : Type 0 where
@@ -143,7 +143,7 @@ pub record IsStarted (writing : Option Writing) (world : WorldLists) (h : HostNo
   pub no_entry : new.ended ≡ false → (after ≡ before) × (new.made ≡ 0)
 
 -- What a host's turn leaves where nobody else can do anything: it said a text, or ended.
-pub record HasSpoken (writing : Option Writing) (world : WorldLists) (h : HostNo) (before after : List Entry) (old new : SlotState) : Type 0 where
+pub record HasSaidOrEnded (writing : Option Writing) (world : WorldLists) (h : HostNo) (before after : List Entry) (old new : SlotState) : Type 0 where
   pub turn : SaysOrEnds h before after
   pub stands : Stands writing world after h new
   pub started : WasStarted new

@@ -7,7 +7,7 @@ ghost use Rattle.wx_host_launch.specs.Records.{Program, Starts, AreFresh};
 ghost use Rattle.wx_host_launch.specs.Turns.{IsInTurn, IsOutTurn};
 ghost use Rattle.wx_host_slot.specs.BrokerDesks.{desk_over};
 ghost use Rattle.wx_host_slot.specs.Journals.{program_of};
-ghost use Rattle.wx_host_slot.specs.Slots.{slot_of, waiting_slot, closing_record, host_limit, Stands, WasStarted, is_spent_at, turns_left, CameTo, IsServed, IsStarted, HasSpoken};
+ghost use Rattle.wx_host_slot.specs.Slots.{slot_of, waiting_slot, closing_record, host_limit, Stands, WasStarted, is_spent_at, turns_left, CameTo, IsServed, IsStarted, HasSaidOrEnded};
 ghost use Rattle.wx_host_slot.specs.Turns.{HostTurn, SaysOrEnds};
 
 use crate::broker_desk::{in_turn_at, out_turn_at};

@@ -9,8 +9,7 @@ use Rattle.wx_host_launch.specs.Records.{StarterState, slot_like, with_place}
 use Rattle.wx_host_slot.specs.Slots.{SlotState, waiting_slot, turns_left, host_limit}
 use Rattle.wx_run.specs.Hosts.{host_numbered}
 use Rattle.wx_run.specs.Slots.{HostsStand, first_spent_slot, all_turns_left, keeping}
-use Rattle.wx_run.proofs.SlotLemmas.{hosts_stand_append}
-use Rattle.wx_run.proofs.ServeLemmas.{spent_split}
+use Rattle.wx_run.proofs.SlotLemmas.{hosts_stand_append, spent_split}
 
 -- slots were added so far, with waiting hosts, and a place was kept for each
 pub record AddedSoFar (world : WorldLists) (past : List Entry) (start now : StarterState) (old slots : List SlotState) : Type 0 where

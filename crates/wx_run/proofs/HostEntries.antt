@@ -6,11 +6,13 @@ use Rattle.wx_id.specs.declared.numbers.HostNo.{HostNo}
 use Rattle.wx_machine.specs.declared.entries.Who.{Who}
 use Rattle.wx_machine.specs.declared.entries.Who.TheVariants.{Host as ByHost}
 use Rattle.wx_machine.specs.declared.entries.Call.{Call}
+use Rattle.wx_machine.specs.declared.entries.Answer.TheVariants.{Text as HasText}
 use Rattle.wx_machine.specs.declared.entries.Entry.{Entry}
 use Rattle.wx_machine.specs.Contexts.{is_enter}
 use Rattle.wx_machine.specs.Hosts.{hosts, started_by, is_by_host}
 use Rattle.wx_machine.specs.Texts.{has_ended}
 use Rattle.wx_host_slot.specs.Journals.{entries_of}
+use Rattle.wx_host_slot.proofs.JournalLemmas.{none_ended}
 use Rattle.wx_host_slot.specs.Turns.{Makes, HostTurn, not_started, took, not_written, rested, SaysOrEnds, said, ended}
 use Rattle.wx_run.specs.Hosts.{host_numbered, HostTurns}
 
@@ -56,9 +58,9 @@ adds_two h first second a between b unended first_is second_is made more =
 -- A turn of an unspent host that has not ended adds at most two entries, and one that has ended adds none.
 pub turn_adds : (h : HostNo) (a b : List Entry) → HostTurn h a b → Adds h a b
 turn_adds h a b turn = elim turn [
-  | not_started unended made ↦ adds_one h _ a b unended refl made
+  | not_started none made ↦ adds_one h _ a b (none_ended a h none) refl made
   | took ready made ↦ adds_one h _ a b (ready_unended (has_ended a h) _ ready) refl made
-  | not_written ready between made more ↦ adds_two h _ _ a between b (ready_unended (has_ended a h) _ ready) refl refl made more
+  | not_written ready between taken made ↦ adds_two h _ _ a between b (ready_unended (has_ended a h) _ ready) refl refl (record { answer = HasText taken.text; made = taken.made }) made
   | rested not_ready same ↦ record { newer = []; own = tt; few = omega arith; grown = same }
 ]
 
@@ -66,7 +68,7 @@ turn_adds h a b turn = elim turn [
 pub says_adds : (h : HostNo) (a b : List Entry) → has_ended a h ≡ false → SaysOrEnds h a b → Adds h a b
 says_adds h a b unended turn = elim turn [
   | said text made ↦ adds_one h _ a b unended refl made
-  | ended reason made ↦ adds_one h _ a b unended refl made
+  | ended reason heard made ↦ adds_one h _ a b unended refl made
 ]
 
 -- ---- what such entries leave

@@ -65,7 +65,7 @@ Rounds_grow zero ss a b rounds = elim rounds [
   | inl over ↦ ([], over.same)
   | inr cut ↦ FirstTurns_grow ss a b cut.turns
 ]
-Rounds_grow (suc n) ss a b rounds = grows_on a rounds.0 b (Round_grows ss a rounds.0 rounds.1) (Rounds_grow n ss rounds.0 b rounds.2)
+Rounds_grow (suc n) ss a b rounds = grows_on a rounds.0 b (Round_grows ss a rounds.0 rounds.2) (Rounds_grow n ss rounds.0 b rounds.3)
 
 longer : (e : Entry) (newer a b : List Entry) → b ≡ e ∷ newer ++ a → b ≡ a → ⊥
 longer e newer a b grown same =

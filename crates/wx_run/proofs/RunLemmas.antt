@@ -23,15 +23,15 @@ use Rattle.wx_run.specs.declared.rounds.Rounded.TheVariants.{Moved, Idle, Spent}
 use Rattle.wx_run.specs.declared.outcome.RunEnd.{RunEnd}
 use Rattle.wx_run.specs.declared.outcome.RunEnd.TheVariants as end
 use Rattle.wx_run.specs.Cursors.{first_spent_in, all_left, work_in}
-use Rattle.wx_run.specs.Hosts.{HaveEnded, NoneReady, HostTurns, host_numbered, IsFirstUnended, HaveRecords}
+use Rattle.wx_run.specs.Hosts.{HaveEnded, NoneReady, spent_host, HostTurns, host_numbered, IsFirstUnended, HaveRecords}
 use Rattle.wx_run.specs.Slots.{HostsStand, all_turns_left, keeping}
 use Rattle.wx_run.specs.Serving.{HostsServed, FirstHeard}
 use Rattle.wx_run.specs.Rounds.{Turns, Round, of_all, of_first_host, Rounds, of_endpoints, of_hosts, IsCutShort, IsSpent}
 use Rattle.wx_run.specs.Round.{AllStand, IsRound, RoundLessens}
-use Rattle.wx_run.specs.Run.{BeginsWith, EndsBy}
+use Rattle.wx_run.specs.Run.{BeginsWith, HasEnd}
 use Rattle.wx_run.specs.Running.{AreReady, AllTurns, IsWholeRound, RoundOrNone, IsNextRound, turns_in, TurnsLessen, KeepsPlaces, AreRounds, RoundsSoFar}
 use Rattle.wx_run.proofs.EndLemmas.{spent_behind, done_behind, left_behind}
-use Rattle.wx_run.proofs.SlotLemmas.{records_meet}
+use Rattle.wx_run.proofs.SlotLemmas.{records_meet, unspent_behind}
 use Rattle.wx_run.proofs.HostEntries.{host_turns_stay, says_stays, hosts_stay}
 use Rattle.wx_run.proofs.HostLemmas.{grows_on, Turns_grow, by_hosts_grow, endpoints_stand, Turns_keep, Rounds_grow, same_or_more}
 
@@ -300,16 +300,24 @@ round_now scripts ss ps slots a b r q same_scripts is round = subst (λ r. IsNex
 pub rounds_begin : (writing : Option Writing) (world : WorldLists) (scripts : List (List Command)) (ps : List CursorState) (slots : List SlotState) (a : List Entry) → AreReady writing world scripts ps slots a → RoundsSoFar writing world scripts ps slots a a
 rounds_begin writing world scripts ps slots a ready = record { ready = ready; rounds = λ m last r. (m, r) }
 
+not_some : {A : Type 0} (o : Option A) (x : A) → o ≡ None → o ≡ Some x → ⊥
+not_some o x none some = let never : Some x ≡ None = sym some ∙ none in cc
+
+-- between two rounds nobody is spent
+none_spent : (writing : Option Writing) (world : WorldLists) (scripts : List (List Command)) (ps : List CursorState) (slots : List SlotState) (past : List Entry) → AreReady writing world scripts ps slots past → ¬ IsSpent scripts past
+none_spent writing world scripts ps slots past ready (inl (n, is)) = not_some (spent_of scripts past) n (spent_behind scripts ps past ready.endpoints.behind ∙ ready.unspent) is
+none_spent writing world scripts ps slots past ready (inr (h, is)) = not_some (spent_host past) h (unspent_behind writing world past slots ready.hosts_stand ready.hosts_unspent) is
+
 -- one round more, or none
-rounds_more : (scripts : List (List Command)) (b c : List Entry) → RoundOrNone scripts b c → (m : ℕ) (last : List Entry) → Rounds m scripts c last → (n : ℕ) × Rounds n scripts b last
-rounds_more scripts b c (inl round) m last r = (suc m, (c, round, r))
-rounds_more scripts b c (inr same) m last r = (m, subst (λ j. Rounds m scripts j last) same r)
+rounds_more : (scripts : List (List Command)) (b c : List Entry) → ¬ IsSpent scripts b → RoundOrNone scripts b c → (m : ℕ) (last : List Entry) → Rounds m scripts c last → (n : ℕ) × Rounds n scripts b last
+rounds_more scripts b c unspent (inl round) m last r = (suc m, (c, unspent, round, r))
+rounds_more scripts b c unspent (inr same) m last r = (m, subst (λ j. Rounds m scripts j last) same r)
 
 pub rounds_go_on : (writing : Option Writing) (world : WorldLists) (scripts : List (List Command)) (ps qs : List CursorState) (old new : List SlotState) (a b c : List Entry) → RoundsSoFar writing world scripts ps old a b
     → AllStand world scripts qs c → HostsStand writing world c new → IsNextRound scripts qs new b c Moved → RoundsSoFar writing world scripts qs new a c
 rounds_go_on writing world scripts ps qs old new a b c so stand hosts_stand round = record {
   ready = record { endpoints = stand; unspent = round.1; hosts_stand = hosts_stand; hosts_unspent = round.2 };
-  rounds = λ m last r. let more = rounds_more scripts b c round.0 m last r in so.rounds more.0 last more.1;
+  rounds = λ m last r. let more = rounds_more scripts b c (none_spent writing world scripts ps old b so.ready) round.0 m last r in so.rounds more.0 last more.1;
 }
 
 -- nobody can do anything
@@ -322,7 +330,7 @@ rounds_idle writing world scripts ps qs old new a b c so stand round =
       rounds = rounds.1;
       follows = stand.follows;
       within_limit = stand.within_limit;
-      ended = elim (all_left qs) as (λ d. all_left qs ≡ d → EndsBy scripts c (cond d end.Done end.Stalled)) [
+      ended = elim (all_left qs) as (λ d. all_left qs ≡ d → HasEnd scripts c (cond d end.Done end.Stalled)) [
         | true ↦ λ is. (done_behind scripts qs c stand.behind is, round.0.ended)
         | false ↦ λ is. (
           record {
@@ -335,7 +343,7 @@ rounds_idle writing world scripts ps qs old new a b c so stand round =
       ] refl;
     }
 
-ends_spent : (scripts : List (List Command)) (past : List Entry) (who : SpentWho) → EndsBy scripts past (end.Spent who) → IsSpent scripts past
+ends_spent : (scripts : List (List Command)) (past : List Entry) (who : SpentWho) → HasEnd scripts past (end.Spent who) → IsSpent scripts past
 ends_spent scripts past (Endpoint n) ends = inl (n, ends)
 ends_spent scripts past (Host h) ends = inr (h, ends.1)
 
@@ -344,7 +352,7 @@ pub rounds_spent : (writing : Option Writing) (world : WorldLists) (scripts : Li
     → IsNextRound scripts qs new b c (Spent who) → AreRounds scripts a c (end.Spent who)
 rounds_spent writing world scripts ps qs old new a b c who so stand (between, round, turns, ends) =
     let cut : IsCutShort scripts between c = record { spent = ends_spent scripts c who ends; turns = turns } in
-    let last = rounds_more scripts b between round 0 c (inr cut) in
+    let last = rounds_more scripts b between (none_spent writing world scripts ps old b so.ready) round 0 c (inr cut) in
     let rounds = so.rounds last.0 c last.1 in
     record { count = rounds.0; rounds = rounds.1; follows = stand.follows; within_limit = stand.within_limit; ended = ends }
 
@@ -356,7 +364,7 @@ spent_before world scripts ps a n stand is =
     record { count = 0; rounds = inr cut; follows = stand.follows; within_limit = stand.within_limit; ended = spent }
 
 -- a run ends with every host ended, or spent
-pub ended_or_spent : (scripts : List (List Command)) (past : List Entry) (e : RunEnd) → EndsBy scripts past e → HaveEnded past ⊎ IsSpent scripts past
+pub ended_or_spent : (scripts : List (List Command)) (past : List Entry) (e : RunEnd) → HasEnd scripts past e → HaveEnded past ⊎ IsSpent scripts past
 ended_or_spent scripts past end.Done ends = inl ends.1
 ended_or_spent scripts past end.Stalled ends = inl ends.1
 ended_or_spent scripts past (end.Spent who) ends = inr (ends_spent scripts past who ends)
@@ -367,7 +375,7 @@ begins_with n ss front journal rounds =
     (reverse grown.0, sym (reverse-reverse journal) ∙ ap reverse grown.1 ∙ reverse-append grown.0 (reverse front) ∙ ap (λ j. j ++ reverse grown.0) (reverse-reverse front))
 
 -- the records that the slots of all hosts leave are taken over
-pub have_records : (scripts : List (List Command)) (world : WorldLists) (past : List Entry) (e : RunEnd) (slots : List SlotState) (old mid new : StarterState) → EndsBy scripts past e → HostsStand old.writing world past slots → length slots ≡ length (hosts past)
+pub have_records : (scripts : List (List Command)) (world : WorldLists) (past : List Entry) (e : RunEnd) (slots : List SlotState) (old mid new : StarterState) → HasEnd scripts past e → HostsStand old.writing world past slots → length slots ≡ length (hosts past)
     → KeepsPlaces [] slots old mid → new.records ≡ mid.records ++ map closing_record slots → HaveRecords (IsSpent scripts past) world past old new
 have_records scripts world past e slots old mid new ends stand all keeps taken = record {
   more = map closing_record slots;

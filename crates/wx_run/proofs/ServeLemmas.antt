@@ -23,13 +23,9 @@ use Rattle.wx_run.specs.Slots.{HostsStand, AllWereStarted, first_spent_slot, fir
 use Rattle.wx_run.specs.Serving.{HostsServed, FirstHeard}
 use Rattle.wx_run.proofs.ListLemmas.{set_same, element_at}
 use Rattle.wx_run.proofs.HostEntries.{Adds, turn_adds, says_adds, adds_hosts, host_turns_stay, hosts_stay}
-use Rattle.wx_run.proofs.SlotLemmas.{ended_so, stand_at, hosts_stand_set, spent_is_first}
+use Rattle.wx_run.proofs.SlotLemmas.{ended_so, stand_at, hosts_stand_set, spent_is_first, spent_split}
 
 -- ---- lists of slots
-
-pub spent_split : (b : Bool) (h : HostNo) (o : Option HostNo) → cond b (Some h) o ≡ None → (b ≡ false) × (o ≡ None)
-spent_split true h o is = absurd cc
-spent_split false h o is = (refl, is)
 
 pub unspent_slot : (slots : List SlotState) (n i : ℕ) (p : SlotState) → first_spent_slot n slots ≡ None → slice_get slots i ≡ Some p → is_spent_at p ≡ false
 unspent_slot [] n i p none is = absurd cc

@@ -1,5 +1,5 @@
 -- How the slots of all hosts stand behind further entries. Every list of entries has the newest first.
-use Rattle.std.proofs.Common.{◌≡◌, ◌≢◌, ℕ, zero, suc, ◌+◌, ◌<◌, ◌≤◌, ◌⊎◌, inl, inr, length, map, set, cond, arith, Bool, true, false, List, [], ◌∷◌, ◌++◌, Some, refl, sym, ap, ◌∙◌, subst}
+use Rattle.std.proofs.Common.{◌≡◌, ◌≢◌, ℕ, zero, suc, ◌+◌, ◌<◌, ◌≤◌, ◌⊎◌, inl, inr, length, map, set, cond, arith, Bool, true, false, List, [], ◌∷◌, ◌++◌, Some, None, refl, sym, ap, ◌∙◌, subst}
 use Rattle.std.specs.declared.option.Option.{Option}
 use Rattle.std.specs.Prelude.{slice_get, not, ◌&&◌, nat_le, option_to_list}
 use Rattle.std.proofs.lemmas.Bool.{cases_eq, leb-false}
@@ -14,7 +14,7 @@ use Rattle.wx_machine.specs.Hosts.{hosts, starts, is_by_host}
 use Rattle.wx_machine.specs.Texts.{has_ended}
 use Rattle.wx_host_launch.specs.Records.{Writing, StarterState, slot_like}
 use Rattle.wx_host_slot.specs.Journals.{entries_of}
-use Rattle.wx_host_slot.specs.Slots.{SlotState, waiting, running, over, Stands, waiting_slot, closing_record, is_spent_at, host_limit}
+use Rattle.wx_host_slot.specs.Slots.{SlotState, waiting, running, at_end, Stands, waiting_slot, closing_record, is_spent_at, host_limit}
 use Rattle.wx_run.specs.Hosts.{host_numbered, HaveEnded, is_host_spent, spent_host_from, spent_host, AreHostsWithin, RecordsMeet}
 use Rattle.wx_run.specs.Slots.{SlotsStand, HostsStand, first_spent_slot}
 use Rattle.wx_host_slot.proofs.StandsLater.{stands_later, meets_at_end, waiting_stands}
@@ -26,8 +26,8 @@ pub use Rattle.wx_run.proofs.HostEntries.{Adds, AreOfHost, hosts_newer, adds_hos
 pub ended_so : (writing : Option Writing) (world : WorldLists) (past : List Entry) (h : HostNo) (slot : SlotState) → Stands writing world past h slot → slot.ended ≡ has_ended past h
 ended_so writing world past h slot stands = elim stands.stands [
   | waiting unended empty is ↦ ap (λ s. s.ended) is ∙ sym unended
-  | running child runs ↦ runs.unended ∙ sym runs.not_over
-  | over ended is meets ↦ ended ∙ sym is
+  | running child runs ↦ runs.unended ∙ sym runs.host_unended
+  | at_end ended is meets ↦ ended ∙ sym is
 ]
 
 -- and whether it is spent
@@ -192,3 +192,27 @@ spent_from writing world past n (p ∷ slots) stand =
 -- the slots tell which host is the first that is spent
 pub spent_is_first : (writing : Option Writing) (world : WorldLists) (past : List Entry) (slots : List SlotState) → HostsStand writing world past slots → length slots ≡ length (hosts past) → spent_host past ≡ first_spent_slot 0 slots
 spent_is_first writing world past slots so all = ap (λ n. spent_host_from n 0 past) (sym all) ∙ spent_from writing world past 0 slots so.stand
+
+pub spent_split : (b : Bool) (h : HostNo) (o : Option HostNo) → cond b (Some h) o ≡ None → (b ≡ false) × (o ≡ None)
+spent_split true h o is = absurd cc
+spent_split false h o is = (refl, is)
+
+-- hosts that made no entry are not spent
+unspent_beyond : (past : List Entry) (n count : ℕ) → ((h : HostNo) → n ≤ h.0 → entries_of h past ≡ 0) → spent_host_from count n past ≡ None
+unspent_beyond past n zero none = refl
+unspent_beyond past n (suc count) none =
+    let first : is_host_spent past (host_numbered n) ≡ false = ap (λ made. nat_le host_limit made && not (has_ended past (host_numbered n))) (none (host_numbered n) (omega arith)) in
+    ap (λ b. cond b (Some (host_numbered n)) (spent_host_from count (n + 1) past)) first ∙ unspent_beyond past (n + 1) count (λ h above. none h (omega (arith, above)))
+
+unspent_from : (writing : Option Writing) (world : WorldLists) (past : List Entry) (n count : ℕ) (slots : List SlotState) → SlotsStand writing world past n slots → length slots ≤ count → ((h : HostNo) → n + length slots ≤ h.0 → entries_of h past ≡ 0)
+    → first_spent_slot n slots ≡ None → spent_host_from count n past ≡ None
+unspent_from writing world past n count [] stand most none unspent = unspent_beyond past n count (λ h above. none h (omega (arith, above)))
+unspent_from writing world past n zero (p ∷ slots) stand most none unspent = absurd (omega (arith, most))
+unspent_from writing world past n (suc count) (p ∷ slots) stand most none unspent =
+    let rest = spent_split (is_spent_at p) (host_numbered n) (first_spent_slot (n + 1) slots) unspent in
+    ap (λ b. cond b (Some (host_numbered n)) (spent_host_from count (n + 1) past)) (spent_so writing world past (host_numbered n) p stand.0 ∙ rest.0)
+    ∙ unspent_from writing world past (n + 1) count slots stand.1 (omega (arith, most)) (λ h above. none h (omega (arith, above))) rest.1
+
+-- where no slot's host is spent, no host is: those without a slot made no entry
+pub unspent_behind : (writing : Option Writing) (world : WorldLists) (past : List Entry) (slots : List SlotState) → HostsStand writing world past slots → first_spent_slot 0 slots ≡ None → spent_host past ≡ None
+unspent_behind writing world past slots so unspent = unspent_from writing world past 0 (length (hosts past)) slots so.stand so.below (λ h above. so.none_beyond h (omega (arith, above))) unspent

@@ -57,7 +57,7 @@ pub record IsCutShort (scripts : List (List Command)) (before after : List Entry
   pub spent : IsSpent scripts after
   pub turns : FirstTurns scripts before after
 
--- so many rounds; then nobody can do anything, or someone is spent and the last round is cut short
+-- so many rounds, each begun while nobody is spent; then nobody can do anything, or someone is spent and the last round is cut short
 abbrev pub Rounds : ℕ → List (List Command) → List Entry → List Entry → Type 0
 Rounds zero scripts before after = IsOver scripts before after ⊎ IsCutShort scripts before after
-Rounds (suc n) scripts before after = (between : List Entry) × Round scripts before between × Rounds n scripts between after
+Rounds (suc n) scripts before after = (between : List Entry) × ¬ IsSpent scripts before × Round scripts before between × Rounds n scripts between after

@@ -21,11 +21,11 @@ abbrev pub BeginsWith : List Entry → List Entry → Type 0
 BeginsWith front journal = (others : List Entry) × (journal ≡ front ++ others)
 
 -- the run has this end, the newest entry standing first; a run is done or stalled only where every host has ended
-abbrev pub EndsBy : List (List Command) → List Entry → RunEnd → Type 0
-EndsBy scripts past Done = IsDone scripts past × HaveEnded past
-EndsBy scripts past Stalled = IsStalled scripts past × HaveEnded past
-EndsBy scripts past (Spent (Endpoint n)) = spent_of scripts past ≡ Some n
-EndsBy scripts past (Spent (Host h)) = (spent_of scripts past ≡ None) × (spent_host past ≡ Some h)
+abbrev pub HasEnd : List (List Command) → List Entry → RunEnd → Type 0
+HasEnd scripts past Done = IsDone scripts past × HaveEnded past
+HasEnd scripts past Stalled = IsStalled scripts past × HaveEnded past
+HasEnd scripts past (Spent (Endpoint n)) = spent_of scripts past ≡ Some n
+HasEnd scripts past (Spent (Host h)) = (spent_of scripts past ≡ None) × (spent_host past ≡ Some h)
 
 -- A journal that a run of the scene leaves, and how it ends.
 pub record IsRunOf (world : WorldLists) (scene : SceneValue) (journal : List Entry) (end : RunEnd) : Type 0 where
@@ -45,4 +45,4 @@ pub record IsRunOf (world : WorldLists) (scene : SceneValue) (journal : List Ent
   -- nor does a host
   pub hosts_within_limit : AreHostsWithin (reverse journal)
   -- and it ends so
-  pub ended : EndsBy (scripts_of scene) (reverse journal) end
+  pub ended : HasEnd (scripts_of scene) (reverse journal) end

@@ -18,7 +18,7 @@ use Rattle.wx_run.specs.Hosts.{NoneReady, HostTurns, spent_host}
 use Rattle.wx_run.specs.Slots.{HostsStand, AllWereStarted, first_spent_slot, all_turns_left, keeping}
 use Rattle.wx_run.specs.Rounds.{Turns, Round, Rounds, FirstTurns, IsOver}
 use Rattle.wx_run.specs.Round.{AllStand, Follows, IsWithinLimit}
-use Rattle.wx_run.specs.Run.{EndsBy}
+use Rattle.wx_run.specs.Run.{HasEnd}
 
 -- Between two rounds the endpoints and the hosts stand to the journal, and nobody is spent.
 pub record AreReady (writing : Option Writing) (world : WorldLists) (scripts : List (List Command)) (cursors : List CursorState) (slots : List SlotState) (past : List Entry) : Type 0 where
@@ -50,7 +50,7 @@ abbrev pub IsNextRound : List (List Command) → List CursorState → List SlotS
 IsNextRound scripts cursors slots before after Moved = RoundOrNone scripts before after × (first_spent_in 0 cursors ≡ None) × (first_spent_slot 0 slots ≡ None)
 IsNextRound scripts cursors slots before after Idle = IsOver scripts before after × (first_spent_in 0 cursors ≡ None)
 IsNextRound scripts cursors slots before after (Spent who) =
-    (between : List Entry) × RoundOrNone scripts before between × FirstTurns scripts between after × EndsBy scripts after (end.Spent who)
+    (between : List Entry) × RoundOrNone scripts before between × FirstTurns scripts between after × HasEnd scripts after (end.Spent who)
 
 -- More than as many turns as all may still make: an endpoint's turn may call a host, and each host that has no slot yet may
 -- make all of its turns.
@@ -74,7 +74,7 @@ pub record AreRounds (scripts : List (List Command)) (before after : List Entry)
   pub rounds : Rounds count scripts before after
   pub follows : Follows scripts after
   pub within_limit : IsWithinLimit after
-  pub ended : EndsBy scripts after end
+  pub ended : HasEnd scripts after end
 
 -- Rounds led from one past to another so far: whatever rounds follow, they are rounds from the first.
 pub record RoundsSoFar (writing : Option Writing) (world : WorldLists) (scripts : List (List Command)) (cursors : List CursorState) (slots : List SlotState) (before after : List Entry) : Type 0 where
