@@ -19,6 +19,7 @@ use Rattle.wx_host_launch.specs.Halves.{text_of_take, text_said}
 use Rattle.wx_host_launch.specs.Records.{Program}
 use Rattle.wx_host_launch.proofs.HostLemmas.{get-append}
 use Rattle.wx_host_slot.specs.Journals.{entries_of, taken_by, said_by, EachOf, program_at, program_of}
+use Rattle.wx_host_slot.specs.Turns.{HostTurn, not_started, took, not_written, rested}
 
 -- Each call of a host
 
@@ -62,6 +63,14 @@ ended_others e past h other = ap (λ b. has_ended past h || (is_host_end e.call 
 
 pub each_others : (P : List Entry → Call → Type 0) (e : Entry) (past : List Entry) (h : HostNo) → is_by_host e.who h ≡ false → EachOf h P past → EachOf h P (e ∷ past)
 each_others P e past h other each = (each, λ is. absurd (false≢true (sym other ∙ is)))
+
+-- A turn of a host of which less is asked
+
+pub turn_map : {A B : Type 0} → (A → B) → (h : HostNo) (before after : List Entry) → HostTurn A h before after → HostTurn B h before after
+turn_map f h before after (not_started unstarted none made) = not_started (f unstarted) none made
+turn_map f h before after (took ready made) = took ready made
+turn_map f h before after (not_written ready between taken made) = not_written ready between taken made
+turn_map f h before after (rested not_ready same) = rested not_ready same
 
 -- A host without entries
 

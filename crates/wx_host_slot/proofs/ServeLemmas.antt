@@ -31,11 +31,11 @@ use Rattle.wx_host_launch.specs.declared.turns.OutTurn.{OutTurn}
 use Rattle.wx_host_launch.specs.declared.turns.OutTurn.TheVariants as out
 use Rattle.wx_host_slot.specs.BrokerDesks.{desk_over}
 use Rattle.wx_host_slot.specs.Journals.{program_of}
-use Rattle.wx_host_slot.specs.Slots.{ChildState, SlotState, SlotView, slot_of, StandsRunning, StandsAs, waiting, running, at_end, Stands, turns_left, CameTo, IsServed, IsStarted, HasSaidOrEnded}
+use Rattle.wx_host_slot.specs.Slots.{ChildState, SlotState, SlotView, slot_of, StandsRunning, StandsAs, waiting, running, at_end, Stands, WasStarted, turns_left, CameTo, IsServed, IsStarted, HasSaidOrEnded}
 use Rattle.wx_host_slot.specs.Turns.{HostTurn}
 use Rattle.wx_host_slot.specs.declared.slot.Served.{Served}
 use Rattle.wx_host_slot.specs.declared.slot.Served.TheVariants.{Moved, Rested}
-use Rattle.wx_host_slot.proofs.JournalLemmas.{own}
+use Rattle.wx_host_slot.proofs.JournalLemmas.{own, turn_map}
 use Rattle.wx_host_slot.proofs.StartLemmas.{fresh_child, start_runs, without_child, start_fails}
 use Rattle.wx_host_slot.proofs.DeskLemmas.{one_past, at_first, over_past}
 use Rattle.wx_host_slot.proofs.EndLemmas.{behind_turn}
@@ -320,7 +320,7 @@ starts_none {P} state h broker new was slot starter a same s unended none known 
 
 -- What a turn answers
 
-pub served_turn : {E : Type 0} (writing : Option Writing) (world : WorldLists) (h : HostNo) (before after : List Entry) (old new : SlotState) (result : Result Served E) → IfOk result (λ served. IsServed writing world h before after old new served) → OnOk result (HostTurn h before after)
+pub served_turn : {E : Type 0} (writing : Option Writing) (world : WorldLists) (h : HostNo) (before after : List Entry) (old new : SlotState) (result : Result Served E) → IfOk result (λ served. IsServed writing world h before after old new served) → OnOk result (HostTurn (¬ WasStarted old) h before after)
 served_turn writing world h before after old new (Ok served) s = s.turn
 served_turn writing world h before after old new (Err e) s = tt
 
@@ -348,9 +348,10 @@ stands_after writing world other past h slot same s =
 pub served_behind : (writing : Option Writing) (world : WorldLists) (h : HostNo) (a b c : List Entry) (slot mid new : SlotState) (came : Served) → IsStarted writing world h a b slot mid → mid.ended ≡ false → IsServed writing world h b c mid new came → IsServed writing world h a c slot new Moved
 served_behind writing world h a b c slot mid new came s unended served =
     let (same, none) = s.no_entry unended in
-    let T : List Entry → Type 0 = λ x. HostTurn h x c in
+    let T : List Entry → Type 0 = λ x. HostTurn (¬ WasStarted slot) h x c in
+    let turn = turn_map (λ unstarted. absurd (unstarted s.started)) h b c served.turn in
     record {
-      turn = subst T same served.turn;
+      turn = subst T same turn;
       stands = served.stands;
       started = served.started;
       came = came_less h b c mid new came (turns_left slot) served.came s.less;

@@ -211,6 +211,6 @@ start_fails world past h slot p n a s unended none is rose =
       };
       started = λ e. absurd (true≢false e);
       less = omega (arith, before);
-      turn = λ _. not_started w.no_entries (record { answer = a; made = refl });
+      turn = λ _. not_started (λ was. true≢false (sym (subst IsSome none (was unended)))) w.no_entries (record { answer = a; made = refl });
       no_entry = λ e. absurd (true≢false e);
     }

@@ -107,7 +107,7 @@ host_limit = 65536
 abbrev pub is_spent_at : SlotState → Bool
 is_spent_at slot = nat_le host_limit slot.made && not slot.ended
 
--- its program was started, or could not be
+-- its program was started, or its host has ended
 abbrev pub WasStarted : SlotState → Type 0
 WasStarted slot = slot.ended ≡ false → IsSome slot.child
 
@@ -128,7 +128,7 @@ CameTo h before after old new Rested = (after ≡ before) × (is_host_ready befo
 
 -- What a host's turn behind those of the endpoints leaves.
 pub record IsServed (writing : Option Writing) (world : WorldLists) (h : HostNo) (before after : List Entry) (old new : SlotState) (served : Served) : Type 0 where
-  pub turn : HostTurn h before after
+  pub turn : HostTurn (¬ WasStarted old) h before after
   pub stands : Stands writing world after h new
   pub started : WasStarted new
   pub came : CameTo h before after old new served
@@ -139,7 +139,7 @@ pub record IsStarted (writing : Option Writing) (world : WorldLists) (h : HostNo
   pub stands : Stands writing world after h new
   pub started : WasStarted new
   pub less : turns_left new < turns_left old
-  pub turn : new.ended ≡ true → HostTurn h before after
+  pub turn : new.ended ≡ true → HostTurn (¬ WasStarted old) h before after
   pub no_entry : new.ended ≡ false → (after ≡ before) × (new.made ≡ 0)
 
 -- What a host's turn leaves where nobody else can do anything: it said a text, or ended.

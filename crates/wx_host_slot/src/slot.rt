@@ -183,7 +183,7 @@ impl<P: Starter> HostSlot<P> {
         requires host { h.0 < length (hosts (reverse broker.old.entries)) }
         requires stands { Stands (P.state self.old.starter).writing broker.old.world (reverse broker.old.entries) h (slot_of P.state self.old) }
         requires unspent { is_spent_at (slot_of P.state self.old) ≡ false }
-        ensures turn { OnOk result (HostTurn h (reverse broker.old.entries) (reverse broker.new.entries)) }
+        ensures turn { OnOk result (HostTurn (¬ WasStarted (slot_of P.state self.old)) h (reverse broker.old.entries) (reverse broker.new.entries)) }
         ensures stands { OnOk result (Stands (P.state self.old.starter).writing broker.old.world (reverse broker.new.entries) h (slot_of P.state self.new)) }
         ensures started { OnOk result (WasStarted (slot_of P.state self.new)) }
         ensures came { IfOk result (CameTo h (reverse broker.old.entries) (reverse broker.new.entries) (slot_of P.state self.old) (slot_of P.state self.new)) }
