@@ -12,7 +12,7 @@ use Rattle.wx_status.specs.declared.status.Status.{Status}
 use Rattle.wx_status.specs.declared.status.Status.TheVariants as status
 use Rattle.wx_status.specs.Changes.{ShelfChange, SinkChange, HasFailed}
 use Rattle.wx_status.specs.Told.{LinesTold}
-use Rattle.wx_cmd.specs.Scenes.{scene_in, IsTextOfRun}
+use Rattle.wx_cmd.specs.Scenes.{scene_of_content, IsTextOfRun}
 use Rattle.wx_cmd.specs.Endings.{answer_by}
 use Rattle.wx_cmd.specs.Starters.{StarterChange}
 use Rattle.wx_cmd.specs.Verdict.{Verdict, read_fault, refused, manifest_refused, no_memory, ran}
@@ -72,7 +72,7 @@ module _ (words : List (List ℕ)) (shelf : ShelfChange) (starter : StarterChang
       told ∙ ap (content_at sound.files) same
 
   scene_is : (scene : SceneValue) → Accepted words shelf scene → scene ≡ sound.scene
-  scene_is scene accepted = ok_scene scene sound.scene (sym accepted.accepted ∙ ap scene_in (content_is accepted.content accepted.found) ∙ sound.accepted)
+  scene_is scene accepted = ok_scene scene sound.scene (sym accepted.accepted ∙ ap scene_of_content (content_is accepted.content accepted.found) ∙ sound.accepted)
 
   world_is : WorldLaw → (scene : SceneValue) (world : WorldLists) → Accepted words shelf scene → IsWorldOf shelf.files scene world → world_of sound.files sound.scene ≡ Ok world
   world_is law scene world accepted is =
@@ -89,7 +89,7 @@ module _ (words : List (List ℕ)) (shelf : ShelfChange) (starter : StarterChang
 
   not_refused : (fault : SceneFault) → Judged words shelf starter (refused fault) → ⊥
   not_refused fault judged =
-      let both : is_fault fault ≡ is_scene sound.scene = sym judged.refusal ∙ ap scene_in (content_is judged.content judged.found) ∙ sound.accepted in
+      let both : is_fault fault ≡ is_scene sound.scene = sym judged.refusal ∙ ap scene_of_content (content_is judged.content judged.found) ∙ sound.accepted in
       cc
 
   answers_run : WorldLaw → RefusalLaw → (world : WorldLists) → world_of sound.files sound.scene ≡ Ok world → (result : Status) (verdict : Verdict) → Judged words shelf starter verdict → Told verdict out err result

@@ -10,7 +10,7 @@ use Rattle.wx_world.specs.declared.faults.FileRefusal.{FileRefusal}
 use Rattle.wx_world.specs.Files.{world_of}
 use Rattle.wx_words.specs.Words.{scene_named}
 use Rattle.wx_run.specs.declared.outcome.RunEnd.{RunEnd}
-use Rattle.wx_cmd.specs.Scenes.{scene_in, IsTextOfRun}
+use Rattle.wx_cmd.specs.Scenes.{scene_of_content, IsTextOfRun}
 use Rattle.wx_cmd.specs.Endings.{answer_by}
 use Rattle.wx_cmd.specs.Starters.{StarterChange}
 use Rattle.wx_status.specs.Changes.{ShelfChange, SinkChange, HasFailed}
@@ -22,7 +22,7 @@ pub record NothingFailed (words : List (List ℕ)) (shelf : ShelfChange) (out er
   pub files : Files
   pub tells : shelf.files ≡ Some files
   pub scene : SceneValue
-  pub accepted : scene_in (content_at files file) ≡ Ok scene
+  pub accepted : scene_of_content (content_at files file) ≡ Ok scene
   pub shelf_sound : Rose shelf.faults_before shelf.faults_after → ⊥
   pub out_sound : HasFailed out → ⊥
   pub err_sound : HasFailed err → ⊥
@@ -39,7 +39,7 @@ pub record ManifestIsWrong (words : List (List ℕ)) (shelf : ShelfChange) (out 
   pub refusal : FileRefusal
   pub first : world_of sound.files sound.scene ≡ Err refusal
 
--- The answer is that of a run of the scene in this world.
+-- The answer is that of some run of the scene in this world; that this run's text was written, the headline says.
 pub record AnswersRun (world : WorldLists) (scene : SceneValue) (starter : StarterChange) (result : Status) : Type 0 where
   pub end : RunEnd
   pub text : List ℕ

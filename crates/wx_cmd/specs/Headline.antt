@@ -14,7 +14,7 @@ use Rattle.wx_status.specs.declared.status.Status.{Status}
 use Rattle.wx_status.specs.Changes.{ShelfChange, SinkChange, IsUntouched}
 use Rattle.wx_words.specs.Words.{scene_named}
 use Rattle.wx_plain.specs.Headline.{PlainHeadline}
-use Rattle.wx_cmd.specs.Scenes.{scene_in, IsTextOfRun}
+use Rattle.wx_cmd.specs.Scenes.{scene_of_content, IsTextOfRun}
 use Rattle.wx_cmd.specs.Verdict.{Verdict, read_fault, refused, manifest_refused, no_memory, ran}
 use Rattle.wx_cmd.specs.Told.{Told}
 use Rattle.wx_cmd.specs.Starters.{StarterChange, IsUnusedUnlessRun}
@@ -29,13 +29,13 @@ pub record Found (words : List (List ℕ)) (shelf : ShelfChange) (content : Cont
 pub record Refused (words : List (List ℕ)) (shelf : ShelfChange) (fault : SceneFault) : Type 0 where
   pub content : Content
   pub found : Found words shelf content
-  pub refusal : scene_in content ≡ Err fault
+  pub refusal : scene_of_content content ≡ Err fault
 
 -- What stands there is this scene.
 pub record Accepted (words : List (List ℕ)) (shelf : ShelfChange) (scene : SceneValue) : Type 0 where
   pub content : Content
   pub found : Found words shelf content
-  pub accepted : scene_in content ≡ Ok scene
+  pub accepted : scene_of_content content ≡ Ok scene
 
 -- The words name this file, and a read failed in the call.
 pub record SceneReadFailed (words : List (List ℕ)) (shelf : ShelfChange) (file : List ℕ) : Type 0 where
@@ -83,7 +83,7 @@ pub record RunHeadline (words : List (List ℕ)) (shelf : ShelfChange) (starter 
 
 -- by the scene that the words name
 abbrev pub HeadlineOf : Option (List ℕ) → List (List ℕ) → ShelfChange → StarterChange → SinkChange → SinkChange → Status → Type 0
-HeadlineOf (Some scene) words shelf starter out err result = RunHeadline words shelf starter out err result
+HeadlineOf (Some name) words shelf starter out err result = RunHeadline words shelf starter out err result
 HeadlineOf None words shelf starter out err result = PlainHeadline words shelf out err result
 
 -- The words of a run have its headline, and all others that of the commands which make no run.

@@ -7,7 +7,7 @@ use Rattle.wx_world.specs.Names.{name_at}
 use Rattle.wx_world.specs.Reading.{IsWorldOf, IsFirstRefusal, HasFailedAt}
 use Rattle.wx_status.specs.Changes.{ShelfChange}
 use Rattle.wx_cmd.specs.Starters.{StarterChange}
-use Rattle.wx_cmd.specs.Scenes.{scene_in, IsTextOfRun}
+use Rattle.wx_cmd.specs.Scenes.{scene_of_content, IsTextOfRun}
 use Rattle.wx_cmd.specs.Verdict.{Verdict, read_fault, refused, manifest_refused, no_memory, ran}
 
 -- a run of the scene in this world comes to its text
@@ -30,11 +30,11 @@ SceneComesTo scene shelf starter (refused fault) = ⊥
 
 -- a content comes to what its scene comes to, or to a refusal
 abbrev pub ComesTo : Content → ShelfChange → StarterChange → Verdict → Type 0
-ComesTo content shelf starter (refused fault) = scene_in content ≡ Err fault
+ComesTo content shelf starter (refused fault) = scene_of_content content ≡ Err fault
 ComesTo content shelf starter no_memory = Unit {0}
-ComesTo content shelf starter (ran end text lines) = (scene : SceneValue) × (scene_in content ≡ Ok scene) × SceneComesTo scene shelf starter (ran end text lines)
-ComesTo content shelf starter (manifest_refused refusal file) = (scene : SceneValue) × (scene_in content ≡ Ok scene) × SceneComesTo scene shelf starter (manifest_refused refusal file)
-ComesTo content shelf starter (read_fault file) = (scene : SceneValue) × (scene_in content ≡ Ok scene) × SceneComesTo scene shelf starter (read_fault file)
+ComesTo content shelf starter (ran end text lines) = (scene : SceneValue) × (scene_of_content content ≡ Ok scene) × SceneComesTo scene shelf starter (ran end text lines)
+ComesTo content shelf starter (manifest_refused refusal file) = (scene : SceneValue) × (scene_of_content content ≡ Ok scene) × SceneComesTo scene shelf starter (manifest_refused refusal file)
+ComesTo content shelf starter (read_fault file) = (scene : SceneValue) × (scene_of_content content ≡ Ok scene) × SceneComesTo scene shelf starter (read_fault file)
 
 -- this file could not be read, or memory was refused
 abbrev pub IsReadFault : List ℕ → Verdict → Type 0

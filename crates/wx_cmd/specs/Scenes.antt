@@ -23,20 +23,20 @@ abbrev pub refusal : SceneKind → SceneFault
 refusal kind = record { line = 0; kind = kind }
 
 -- the scene that stands there, or why it is refused
-abbrev pub scene_in : Content → Result SceneValue SceneFault
-scene_in absent = Err (refusal Missing)
-scene_in too_large = Err (refusal Large)
-scene_in (present bytes) = scene_of bytes
+abbrev pub scene_of_content : Content → Result SceneValue SceneFault
+scene_of_content absent = Err (refusal Missing)
+scene_of_content too_large = Err (refusal Large)
+scene_of_content (present bytes) = scene_of bytes
 
 -- A run of the scene in this world leaves a journal and comes to this end; each host's record meets the journal; the text is
--- that journal's and no other's, and the lines tell of the end.
+-- that journal's, and of no other that fits, and the lines tell of the end.
 pub record IsTextOfRun (world : WorldLists) (scene : SceneValue) (starter : StarterChange) (end : RunEnd) (text lines : List ℕ) : Type 0 where
   pub journal : List Entry
   pub run : IsRunOf world scene journal end
   -- the starter took over one record for each host of the journal, in rising number, and each meets the journal
   pub records : HaveRecords (IsSpent (scripts_of scene) (reverse journal)) world (reverse journal) starter.before starter.after
   pub text_of_run : text ≡ journal_text journal
-  -- no other journal has this text
+  -- the journal fits, and no other that fits has this text
   pub fits : JournalFits journal
   pub alone : IsTextOfNoOther text journal
   pub lines_of_run : lines ≡ lines_of_end scene (reverse journal) end

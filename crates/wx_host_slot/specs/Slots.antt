@@ -99,7 +99,7 @@ pub record Stands (writing : Option Writing) (world : WorldLists) (past : List E
   pub counted : slot.made ≡ entries_of h past
   pub stands : StandsAs writing world past h slot
 
--- the most entries that a host has before its last turns in a run
+-- with so many entries, and no end, a host is spent
 abbrev pub host_limit : ℕ
 host_limit = 65536
 
