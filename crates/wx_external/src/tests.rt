@@ -42,6 +42,23 @@ fn web(alloc: Global, url: &str) -> Result<Context, Fail> {
     })
 }
 
+/// Who calls: a page of an extension, a content script of extension A, or a page of the web. A table of these has nothing
+/// to drop where a later row fails, as one of contexts would.
+#[derive(Clone, Copy)]
+enum Caller {
+    Page(&'static [u8]),
+    Script,
+    Web(&'static str),
+}
+
+fn context_of(alloc: Global, caller: Caller) -> Result<Context, Fail> {
+    match caller {
+        Caller::Page(ext) => page(alloc, ext),
+        Caller::Script => script(alloc, A),
+        Caller::Web(url) => web(alloc, url),
+    }
+}
+
 /// The world that holds extension A alone, with this manifest.
 fn world_with(alloc: Global, manifest: &str) -> Result<World, Fail> {
     let mut world = World::new(alloc);
@@ -74,16 +91,17 @@ fn verdicts_on_calls_to_an_extension(rt: HostRuntime) -> Result<(), Fail> {
         ),
     ];
     let target = Target::Other(ExtensionId::read(A)?);
+    let callers = [
+        Caller::Page(B),
+        Caller::Page(A),
+        Caller::Web("https://a.b/x"),
+        Caller::Web("https://c.d/x"),
+    ];
     for (manifest, verdicts) in table {
         let world = world_with(alloc, manifest)?;
-        let callers = [
-            page(alloc, B)?,
-            page(alloc, A)?,
-            web(alloc, "https://a.b/x")?,
-            web(alloc, "https://c.d/x")?,
-        ];
         for (caller, verdict) in callers.iter().zip(verdicts) {
-            assert_eq!(rt; gate(&world, caller, &target), verdict);
+            let caller = context_of(alloc, *caller)?;
+            assert_eq!(rt; gate(&world, &caller, &target), verdict);
         }
     }
     Ok(())
@@ -103,16 +121,17 @@ fn verdicts_of_each_sort_of_caller(rt: HostRuntime) -> Result<(), Fail> {
     let bad = Verdict::BadTarget;
     let table = [
         (
-            page(alloc, A)?,
+            Caller::Page(A),
             [INTERNAL, INTERNAL, EXTERNAL, INTERNAL, INTERNAL],
         ),
-        (script(alloc, A)?, [INTERNAL, INTERNAL, bad, bad, bad]),
+        (Caller::Script, [INTERNAL, INTERNAL, bad, bad, bad]),
         (
-            web(alloc, "https://a.b/x")?,
+            Caller::Web("https://a.b/x"),
             [bad, NO_URL, NO_URL, bad, bad],
         ),
     ];
     for (caller, verdicts) in table {
+        let caller = context_of(alloc, caller)?;
         for (target, verdict) in targets.iter().zip(verdicts) {
             assert_eq!(rt; gate(&world, &caller, target), verdict);
         }
@@ -150,15 +169,16 @@ fn native_verdicts(rt: HostRuntime) -> Result<(), Fail> {
     assert!(rt; world.add_host(host_f(alloc)?).is_ok());
     assert!(rt; world.add_host(host_e(alloc)?).is_ok());
     let table = [
-        (script(alloc, A)?, "E", NativeVerdict::BadTarget),
-        (web(alloc, "https://a.b/")?, "E", NativeVerdict::BadTarget),
-        (page(alloc, B)?, "E", NativeVerdict::NoPermission),
-        (page(alloc, A)?, "E", NativeVerdict::BadHostName),
-        (page(alloc, A)?, "g", NativeVerdict::HostNotFound),
-        (page(alloc, A)?, "f", NativeVerdict::HostForbidden),
-        (page(alloc, A)?, "e", NativeVerdict::Open(1)),
+        (Caller::Script, "E", NativeVerdict::BadTarget),
+        (Caller::Web("https://a.b/"), "E", NativeVerdict::BadTarget),
+        (Caller::Page(B), "E", NativeVerdict::NoPermission),
+        (Caller::Page(A), "E", NativeVerdict::BadHostName),
+        (Caller::Page(A), "g", NativeVerdict::HostNotFound),
+        (Caller::Page(A), "f", NativeVerdict::HostForbidden),
+        (Caller::Page(A), "e", NativeVerdict::Open(1)),
     ];
     for (caller, name, verdict) in table {
+        let caller = context_of(alloc, caller)?;
         assert_eq!(rt; native_gate(&world, &caller, name), verdict);
     }
     assert_eq!(rt; world.host(1).map(|host| host.path()), Some("/e"));
