@@ -66,7 +66,7 @@ turn_adds called h a b turn = elim turn [
   | rested not_ready same ↦ record { newer = []; own = tt; few = omega arith; grown = same }
 ]
 
--- the same turn, where something else says that the host was called in its round
+-- the same turn, where something else follows for a host that could not be started
 pub called_so : (waits called : Type 0) (h : HostNo) (a b : List Entry) → (waits → called) → HostTurn waits h a b → HostTurn called h a b
 called_so waits called h a b so turn = elim turn [
   | not_started now none made ↦ not_started (so now) none made

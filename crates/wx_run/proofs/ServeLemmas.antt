@@ -202,7 +202,7 @@ not_known known i old p first at waits = elim (cases_lt i known) [
   | inr behind ↦ omega (arith, behind)
 ]
 
--- so the next host's turn is one in which those alone may fail to start that are not known
+-- so the next host's turn is one in which those alone can fail to start that are not known
 next_turn : (world : WorldLists) (i : ℕ) (old slots : List SlotState) (a b c : List Entry) (p q : SlotState) (moved : Bool) (came : Served) → ServedSoFar world i old slots a b moved → IsNextTurn world i slots b c p q came
     → (known : ℕ) → AllWereStarted (take known old) → HostTurn (known ≤ i) (host_numbered i) b c
 next_turn world i old slots a b c p q moved came so next known first =

@@ -34,7 +34,7 @@ abbrev pub NoneReady : List Entry → Type 0
 NoneReady past = (h : HostNo) → h.0 < length (hosts past) → is_host_ready past h ≡ false
 
 -- the turns of so many hosts, numbered from 0, in rising number; those from number `known` on were called in this round, and
--- they alone may fail to start
+-- they alone can fail to start
 abbrev pub HostTurns : ℕ → ℕ → List Entry → List Entry → Type 0
 HostTurns known zero before after = after ≡ before
 HostTurns known (suc n) before after = (between : List Entry) × HostTurns known n before between × HostTurn (known ≤ n) (host_numbered n) between after

@@ -31,14 +31,14 @@ abbrev pub Turns : List (List Command) → ℕ → List Entry → List Entry →
 Turns [] n before after = after ≡ before
 Turns (script ∷ scripts) n before after = (between : List Entry) × Turn script (record { 0 = n }) before between × Turns scripts (n + 1) between after
 
--- A round: the turns of all endpoints and then of all hosts, in which someone made an entry, and in which the hosts that the
--- endpoints called alone may fail to start; or, where nobody could make an entry, the first host that has not ended said a
--- text, or ended.
+-- A round: the turns of all endpoints and then of all hosts, in which someone made an entry; of the hosts those alone can fail
+-- to start that the endpoints called in this round. Or, where nobody could make an entry, the first host that has not ended
+-- said a text, or ended.
 pub data Round (scripts : List (List Command)) (before after : List Entry) : Type 0 where
   of_all : (between : List Entry) → Turns scripts 0 before between → HostTurns (length (hosts before)) (length (hosts between)) between after → (after ≡ before → ⊥) → Round scripts before after
   of_first_host : AreIdle scripts before → NoneReady before → (h : HostNo) → IsFirstUnended before h → SaysOrEnds h before after → Round scripts before after
 
--- No endpoint can do anything, and every host has ended.
+-- No endpoint can do anything, every host has ended, and no entry was made.
 pub record IsOver (scripts : List (List Command)) (before after : List Entry) : Type 0 where
   pub idle : AreIdle scripts after
   pub ended : HaveEnded after

@@ -32,7 +32,7 @@ pub record AreReady (writing : Option Writing) (world : WorldLists) (scripts : L
   pub hosts_stand : HostsStand writing world past slots
   pub go_on : MayGoOn cursors slots past
 
--- all endpoints made their turns, and then all hosts, of which those that the endpoints called alone may fail to start
+-- all endpoints made their turns, and then all hosts, of which those alone can fail to start that were called in this round
 abbrev pub AllTurns : List (List Command) → List Entry → List Entry → Type 0
 AllTurns scripts before after = (between : List Entry) × Turns scripts 0 before between × HostTurns (length (hosts before)) (length (hosts between)) between after
 

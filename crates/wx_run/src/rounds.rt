@@ -59,7 +59,7 @@ fn round(cursors: &mut Vec<Cursor<'_>>, desk: &mut BrokerDesk) -> Result<Rounded
     Ok(if moved { Rounded::Moved } else { Rounded::Idle })
 }
 
-/// A whole round: the turns of all endpoints, and then of all hosts, those included that were called in it, which alone may
+/// A whole round: the turns of all endpoints, and then of all hosts, those included that were called in it, which alone can
 /// fail to start; or its first turns, up to the entry by which someone is spent.
 fn whole_round<P: Starter>(
     alloc: Global,
