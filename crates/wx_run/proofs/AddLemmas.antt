@@ -1,20 +1,21 @@
 -- Slots for the hosts that have none.
-use Rattle.std.proofs.Common.{◌≡◌, ℕ, ◌+◌, ◌-◌, ◌*◌, ◌<◌, ◌≤◌, length, cond, arith, Bool, true, List, [], ◌∷◌, ◌++◌, refl, sym, ap, ◌∙◌, subst}
+use Rattle.std.proofs.Common.{◌≡◌, ℕ, ◌+◌, ◌-◌, ◌*◌, ◌<◌, ◌≤◌, length, take, cond, arith, Bool, true, List, [], ◌∷◌, ◌++◌, refl, sym, ap, ◌∙◌, subst, append_assoc, append-nil}
 use Rattle.std.specs.Prelude.{Some, None}
-use Rattle.std.proofs.lemmas.List.{length-append}
+use Rattle.std.proofs.lemmas.List.{length-append, take_at}
 use Rattle.wx_external.specs.World.{WorldLists}
 use Rattle.wx_machine.specs.declared.entries.Entry.{Entry}
 use Rattle.wx_machine.specs.Hosts.{hosts}
 use Rattle.wx_host_launch.specs.Records.{StarterState, slot_like, with_place}
 use Rattle.wx_host_slot.specs.Slots.{SlotState, waiting_slot, turns_left, host_limit}
 use Rattle.wx_run.specs.Hosts.{host_numbered}
-use Rattle.wx_run.specs.Slots.{HostsStand, first_spent_slot, all_turns_left, keeping}
+use Rattle.wx_run.specs.Slots.{HostsStand, AllWereStarted, AddsBehind, first_spent_slot, all_turns_left, keeping}
 use Rattle.wx_run.proofs.SlotLemmas.{hosts_stand_append, spent_split}
 
 -- slots were added so far, with waiting hosts, and a place was kept for each
 pub record AddedSoFar (world : WorldLists) (past : List Entry) (start now : StarterState) (old slots : List SlotState) : Type 0 where
   pub stand : HostsStand start.writing world past slots
   pub more : length old ≤ length slots
+  pub front : AddsBehind old slots
   pub unspent : first_spent_slot 0 old ≡ None → first_spent_slot 0 slots ≡ None
   pub left : all_turns_left slots ≡ all_turns_left old + (host_limit + 4) * (length slots - length old)
   pub kept : now ≡ keeping (length slots - length old) start
@@ -29,12 +30,20 @@ left_append : (slots : List SlotState) (q : SlotState) → all_turns_left (slots
 left_append [] q = omega arith
 left_append (p ∷ slots) q = omega (arith, left_append slots q)
 
+adds_on : (old slots : List SlotState) (q : SlotState) → AddsBehind old slots → AddsBehind old (slots ++ q ∷ [])
+adds_on old slots q added = (added.0 ++ q ∷ [], ap (λ s. s ++ q ∷ []) added.1 ∙ append_assoc old added.0 (q ∷ []))
+
+-- the old slots, which stand in front, were started
+pub were_started : (old new : List SlotState) (known : ℕ) → length old ≡ known → AddsBehind old new → AllWereStarted old → AllWereStarted (take known new)
+were_started old new known is added all = subst AllWereStarted (sym (take_at old added.0 known is) ∙ ap (λ slots. take known slots) (sym added.1)) all
+
 pub adding_begins : (world : WorldLists) (past : List Entry) (start : StarterState) (slots : List SlotState) → HostsStand start.writing world past slots → AddedSoFar world past start start slots slots
 adding_begins world past start slots stand =
     let none : length slots - length slots ≡ 0 = omega arith in
     record {
       stand = stand;
       more = omega arith;
+      front = ([], sym (append-nil slots));
       unspent = λ none. none;
       left = omega arith;
       kept = ap (λ n. record start { places = n }) (let same : start.places ≡ start.places + (length slots - length slots) = omega arith in same);
@@ -52,6 +61,7 @@ slot_added world past start now old slots so below =
     record {
       stand = subst (λ w. HostsStand w world past (slots ++ q ∷ [])) writing (hosts_stand_append world past slots now (subst (λ w. HostsStand w world past slots) (sym writing) so.stand) below);
       more = omega (arith, size, more);
+      front = adds_on old slots q so.front;
       unspent = λ none. unspent_append slots 0 (slot_like now) (so.unspent none);
       left = (let left = left_append slots q in omega (arith, size, more, left, so.left));
       kept = ap with_place so.kept ∙ ap (λ n. record start { places = n }) places;

@@ -1,5 +1,5 @@
 -- How cursors tell the end of a run.
-use Rattle.std.proofs.Common.{◌≡◌, ℕ, zero, suc, ◌+◌, ◌<◌, length, set, cond, arith, Bool, true, false, List, [], ◌∷◌, Some, None, refl, sym, ap, ◌∙◌, subst}
+use Rattle.std.proofs.Common.{◌≡◌, ℕ, zero, suc, ◌+◌, ◌<◌, length, set, cond, arith, Bool, true, false, List, [], ◌∷◌, ◌++◌, Some, None, refl, sym, ap, ◌∙◌, subst}
 use Rattle.std.specs.declared.option.Option.{Option}
 use Rattle.std.specs.Prelude.{slice_get, not, ◌&&◌, nat_le}
 use Rattle.wx_id.specs.declared.numbers.ContextNo.{ContextNo}
@@ -45,6 +45,12 @@ unspent-set (r ∷ ps) n zero q below none is =
 unspent-set (r ∷ ps) n (suc i) q below none is =
     let rest = none_split (is_spent_at r) n (first_spent_in (n + 1) ps) none in
     ap (λ b. cond b (Some n) (first_spent_in (n + 1) (set ps i q))) rest.0 ∙ unspent-set ps (n + 1) i q (omega arith) rest.1 is
+
+pub unspent-append : (ps : List CursorState) (n : ℕ) (q : CursorState) → first_spent_in n ps ≡ None → is_spent_at q ≡ false → first_spent_in n (ps ++ q ∷ []) ≡ None
+unspent-append [] n q none is = ap (λ b. cond b (Some n) (first_spent_in (n + 1) [])) is
+unspent-append (r ∷ ps) n q none is =
+    let rest = none_split (is_spent_at r) n (first_spent_in (n + 1) ps) none in
+    ap (λ b. cond b (Some n) (first_spent_in (n + 1) (ps ++ q ∷ []))) rest.0 ∙ unspent-append ps (n + 1) q rest.1 is
 
 pub spent-set : (ps : List CursorState) (n i m : ℕ) (q : CursorState) → i < length ps → m ≡ n + i → first_spent_in n ps ≡ None → is_spent_at q ≡ true → first_spent_in n (set ps i q) ≡ Some m
 spent-set [] n i m q below at none is = absurd (omega arith)

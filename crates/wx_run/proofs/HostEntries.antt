@@ -1,11 +1,13 @@
 -- What the turns of hosts add to a journal. Every list of entries has the newest first.
-use Rattle.std.proofs.Common.{◌≡◌, ◌≢◌, ℕ, zero, suc, ◌+◌, ◌≤◌, length, cond, arith, Bool, true, false, List, [], ◌∷◌, ◌++◌, refl, sym, ap, ◌∙◌, subst, append_assoc, append-nil}
+use Rattle.std.proofs.Common.{◌≡◌, ◌≢◌, ℕ, zero, suc, ◌+◌, ◌≤◌, ◌⊎◌, inl, inr, length, cond, arith, Bool, true, false, List, [], ◌∷◌, ◌++◌, refl, sym, ap, ◌∙◌, subst, append_assoc, append-nil}
 use Rattle.std.specs.Prelude.{option_to_list, not, ◌&&◌}
-use Rattle.std.proofs.lemmas.Bool.{ne_eqb}
+use Rattle.std.proofs.lemmas.Bool.{ne_eqb, eq-eqb, or_right}
 use Rattle.wx_id.specs.declared.numbers.HostNo.{HostNo}
 use Rattle.wx_machine.specs.declared.entries.Who.{Who}
 use Rattle.wx_machine.specs.declared.entries.Who.TheVariants.{Host as ByHost}
 use Rattle.wx_machine.specs.declared.entries.Call.{Call}
+use Rattle.wx_machine.specs.declared.entries.Call.TheVariants.{HostEnded}
+use Rattle.wx_machine.specs.declared.entries.Reason.TheVariants.{WriteFailed}
 use Rattle.wx_machine.specs.declared.entries.Answer.TheVariants.{Text as HasText}
 use Rattle.wx_machine.specs.declared.entries.Entry.{Entry}
 use Rattle.wx_machine.specs.Contexts.{is_enter}
@@ -56,12 +58,21 @@ adds_two h first second a between b unended first_is second_is made more =
     }
 
 -- A turn of an unspent host that has not ended adds at most two entries, and one that has ended adds none.
-pub turn_adds : (h : HostNo) (a b : List Entry) → HostTurn h a b → Adds h a b
-turn_adds h a b turn = elim turn [
-  | not_started none made ↦ adds_one h _ a b (none_ended a h none) refl made
+pub turn_adds : (called : Type 0) (h : HostNo) (a b : List Entry) → HostTurn called h a b → Adds h a b
+turn_adds called h a b turn = elim turn [
+  | not_started now none made ↦ adds_one h _ a b (none_ended a h none) refl made
   | took ready made ↦ adds_one h _ a b (ready_unended (has_ended a h) _ ready) refl made
   | not_written ready between taken made ↦ adds_two h _ _ a between b (ready_unended (has_ended a h) _ ready) refl refl (record { answer = HasText taken.text; made = taken.made }) made
   | rested not_ready same ↦ record { newer = []; own = tt; few = omega arith; grown = same }
+]
+
+-- the same turn, where something else follows for a host that could not be started
+pub called_so : (waits called : Type 0) (h : HostNo) (a b : List Entry) → (waits → called) → HostTurn waits h a b → HostTurn called h a b
+called_so waits called h a b so turn = elim turn [
+  | not_started now none made ↦ not_started (so now) none made
+  | took ready made ↦ took ready made
+  | not_written ready between taken made ↦ not_written ready between taken made
+  | rested not_ready same ↦ rested not_ready same
 ]
 
 -- a host that says or ends adds one
@@ -69,6 +80,30 @@ pub says_adds : (h : HostNo) (a b : List Entry) → has_ended a h ≡ false → 
 says_adds h a b unended turn = elim turn [
   | said text made ↦ adds_one h _ a b unended refl made
   | ended reason heard made ↦ adds_one h _ a b unended refl made
+]
+
+-- ---- turns of one entry
+
+one_more : (h : HostNo) (call : Call) (a b : List Entry) → Makes h call a b → (last : Entry) × (b ≡ last ∷ a)
+one_more h call a b made = (record { who = ByHost h; call = call; answer = made.answer }, made.made)
+
+write_ended : (h : HostNo) (a b : List Entry) → Makes h (HostEnded WriteFailed) a b → has_ended b h ≡ true
+write_ended h a b made = ap (λ j. has_ended j h) made.made ∙ or_right (has_ended a h) _ (eq-eqb h.0 h.0 refl)
+
+-- A turn of a host is one entry, or behind it the host has ended, or nothing was done.
+pub turn_is_one : (called : Type 0) (h : HostNo) (a b : List Entry) → HostTurn called h a b → ((last : Entry) × (b ≡ last ∷ a)) ⊎ ((has_ended b h ≡ true) ⊎ (b ≡ a))
+turn_is_one called h a b turn = elim turn [
+  | not_started now none made ↦ inl (one_more h _ a b made)
+  | took ready made ↦ inl (one_more h _ a b made)
+  | not_written ready between taken made ↦ inr (inl (write_ended h between b made))
+  | rested not_ready same ↦ inr (inr same)
+]
+
+-- and so is what a host says
+pub says_one : (h : HostNo) (a b : List Entry) → SaysOrEnds h a b → (last : Entry) × (b ≡ last ∷ a)
+says_one h a b turn = elim turn [
+  | said text made ↦ one_more h _ a b made
+  | ended reason heard made ↦ one_more h _ a b made
 ]
 
 -- ---- what such entries leave
@@ -145,16 +180,16 @@ grows_by_hosts_on a b c first second = record {
 }
 
 -- the turns of so many hosts add entries of hosts alone
-pub host_turns_stay : (count : ℕ) (a b : List Entry) → HostTurns count a b → GrowsByHosts a b
-host_turns_stay zero a b same = record { newer = []; own = tt; grown = same }
-host_turns_stay (suc n) a b turns =
-    grows_by_hosts_on a turns.0 b (host_turns_stay n a turns.0 turns.1) (adds_by_hosts (host_numbered n) turns.0 b (turn_adds (host_numbered n) turns.0 b turns.2))
+pub host_turns_stay : (known count : ℕ) (a b : List Entry) → HostTurns known count a b → GrowsByHosts a b
+host_turns_stay known zero a b same = record { newer = []; own = tt; grown = same }
+host_turns_stay known (suc n) a b turns =
+    grows_by_hosts_on a turns.0 b (host_turns_stay known n a turns.0 turns.1) (adds_by_hosts (host_numbered n) turns.0 b (turn_adds (known ≤ n) (host_numbered n) turns.0 b turns.2))
 
 -- and so does what a host says
 pub says_stays : (h : HostNo) (a b : List Entry) → SaysOrEnds h a b → GrowsByHosts a b
 says_stays h a b turn = elim turn [
   | said text made ↦ record { newer = _ ∷ []; own = ((h, record { own = refl; no_enter = refl }), tt); grown = made.made }
-  | ended reason made ↦ record { newer = _ ∷ []; own = ((h, record { own = refl; no_enter = refl }), tt); grown = made.made }
+  | ended reason heard made ↦ record { newer = _ ∷ []; own = ((h, record { own = refl; no_enter = refl }), tt); grown = made.made }
 ]
 
 hosts_of_hosts : (newer past : List Entry) → AreOfHosts newer → hosts (newer ++ past) ≡ hosts past

@@ -19,9 +19,9 @@ use Rattle.wx_script.specs.Places.{place_of, place_behind}
 use Rattle.wx_script.specs.Carries.{AskedOf}
 use Rattle.wx_script.specs.Ends.{entries_by, numbered}
 use Rattle.wx_endpoint.specs.Turn.{CursorState}
-use Rattle.wx_run.specs.Cursors.{cursor_of, cursors_from}
+use Rattle.wx_run.specs.Cursors.{cursor_of, cursors_from, AreBehind}
 use Rattle.wx_run.specs.Slots.{HostsStand}
-use Rattle.wx_run.specs.Rounds.{Turn, Turns, Round, of_all, of_first_host, Rounds, FirstTurns, of_endpoints, of_hosts}
+use Rattle.wx_run.specs.Rounds.{Turn, Turns, Round, of_all, of_first_host, Rounds, FirstTurns, of_endpoints, of_hosts, whole}
 use Rattle.wx_run.specs.Round.{AllStand}
 use Rattle.wx_run.proofs.HostEntries.{IsHostEntry, AreOfHosts, GrowsByHosts, host_turns_stay, says_stays}
 use Rattle.wx_run.proofs.SlotLemmas.{hosts_stand_later}
@@ -50,14 +50,15 @@ by_hosts_grow a b grows = (grows.newer, grows.grown)
 
 Round_grows : (ss : List (List Command)) (a b : List Entry) → Round ss a b → Grows a b
 Round_grows ss a b round = elim round [
-  | of_all between turns host_turns moved ↦ grows_on a between b (Turns_grow ss 0 a between turns) (by_hosts_grow between b (host_turns_stay (length (hosts between)) between b host_turns))
+  | of_all between turns host_turns moved ↦ grows_on a between b (Turns_grow ss 0 a between turns) (by_hosts_grow between b (host_turns_stay (length (hosts a)) (length (hosts between)) between b host_turns))
   | of_first_host idle none_ready h first turn ↦ by_hosts_grow a b (says_stays h a b turn)
 ]
 
 FirstTurns_grow : (ss : List (List Command)) (a b : List Entry) → FirstTurns ss a b → Grows a b
 FirstTurns_grow ss a b turns = elim turns [
   | of_endpoints count made ↦ Turns_grow (take count ss) 0 a b made
-  | of_hosts between count made within host_turns ↦ grows_on a between b (Turns_grow ss 0 a between made) (by_hosts_grow between b (host_turns_stay count between b host_turns))
+  | of_hosts between count made within host_turns ↦ grows_on a between b (Turns_grow ss 0 a between made) (by_hosts_grow between b (host_turns_stay (length (hosts a)) count between b host_turns))
+  | whole round ↦ Round_grows ss a b round
 ]
 
 pub Rounds_grow : (n : ℕ) (ss : List (List Command)) (a b : List Entry) → Rounds n ss a b → Grows a b
@@ -65,7 +66,7 @@ Rounds_grow zero ss a b rounds = elim rounds [
   | inl over ↦ ([], over.same)
   | inr cut ↦ FirstTurns_grow ss a b cut.turns
 ]
-Rounds_grow (suc n) ss a b rounds = grows_on a rounds.0 b (Round_grows ss a rounds.0 rounds.2) (Rounds_grow n ss rounds.0 b rounds.3)
+Rounds_grow (suc n) ss a b rounds = grows_on a rounds.0 b (Round_grows ss a rounds.0 rounds.1) (Rounds_grow n ss rounds.0 b rounds.3)
 
 longer : (e : Entry) (newer a b : List Entry) → b ≡ e ∷ newer ++ a → b ≡ a → ⊥
 longer e newer a b grown same =
@@ -108,6 +109,14 @@ cursors_from-host [] n past e h own = refl
 cursors_from-host (s ∷ ss) n past e h own =
     ap (λ p. p ∷ cursors_from ss (n + 1) (e ∷ past)) (cursor_of-host s (numbered n) past e h own)
     ∙ ap (λ ps. cursor_of s (numbered n) past ∷ ps) (cursors_from-host ss (n + 1) past e h own)
+
+newer_behind : (ss : List (List Command)) (newer past : List Entry) → AreOfHosts newer → cursors_from ss 0 (newer ++ past) ≡ cursors_from ss 0 past
+newer_behind ss [] past own = refl
+newer_behind ss (e ∷ newer) past own = cursors_from-host ss 0 (newer ++ past) e own.0.0 own.0.1.own ∙ newer_behind ss newer past own.1
+
+-- cursors stand behind the journal still where hosts alone made entries
+pub still_behind : (ss : List (List Command)) (ps : List CursorState) (a b : List Entry) → AreBehind ss ps a → GrowsByHosts a b → AreBehind ss ps b
+still_behind ss ps a b behind grows = behind ∙ sym (newer_behind ss grows.newer a grows.own) ∙ ap (cursors_from ss 0) (sym grows.grown)
 
 host_stands : (world : WorldLists) (scripts : List (List Command)) (ps : List CursorState) (past : List Entry) (e : Entry) (h : HostNo) → IsHostEntry h e → AllStand world scripts ps past → FollowsMachine world past e → AllStand world scripts ps (e ∷ past)
 host_stands world scripts ps past e h host stand follows =

@@ -1,7 +1,7 @@
 -- One more endpoint of the opening.
 use Rattle.std.proofs.Common.{◌≡◌, ◌≢◌, ℕ, ◌+◌, ◌<◌, ◌≤◌, length, take, cond, arith, Bool, true, false, List, [], ◌∷◌, ◌++◌, Some, None, refl, sym, ap, ◌∙◌, subst, append_assoc, append-nil}
 use Rattle.std.specs.declared.option.Option.{Option}
-use Rattle.std.specs.Prelude.{slice_get, reverse, ◌&&◌, ◌||◌, not, option_to_list}
+use Rattle.std.specs.Prelude.{slice_get, reverse, ◌&&◌, ◌||◌, not, nat_le, option_to_list}
 use Rattle.std.specs.Option.{option_map, option_or}
 use Rattle.std.proofs.lemmas.Bool.{eq-eqb}
 use Rattle.std.proofs.lemmas.List.{reverse-append, length-map}
@@ -31,7 +31,7 @@ use Rattle.wx_script.specs.declared.script.Command.{Command}
 use Rattle.wx_script.specs.declared.script.Command.TheVariants.{Plain, Repeat}
 use Rattle.wx_script.specs.declared.scene.SceneEndpoint.{SceneEndpoint}
 use Rattle.wx_script.specs.SceneValue.{SceneValue, scripts_of}
-use Rattle.wx_script.specs.Places.{outside, place_of, place_behind, at_start, next_at, next_of, asks}
+use Rattle.wx_script.specs.Places.{outside, place_of, place_behind, at_start, is_left, next_at, next_of, asks}
 use Rattle.wx_script.specs.Carries.{MayCome}
 use Rattle.wx_script.specs.Ends.{numbered, entries_by, entry_limit, is_idle}
 use Rattle.wx_script.proofs.ByLemmas.{is_by-own, is_by-other}
@@ -40,9 +40,9 @@ use Rattle.wx_endpoint.specs.Turn.{CursorState}
 use Rattle.wx_run.specs.declared.outcome.RunEnd.{RunEnd}
 use Rattle.wx_run.specs.Opening.{entered, listened, first_listen, first_entries, opening_from, opening}
 use Rattle.wx_run.specs.Opened.{scripts_at, AreBelow, AreIn, OpenedSoFar, IsOpenedBy, IsOpened}
-use Rattle.wx_run.specs.Cursors.{cursor_of, cursor_at_start, cursors_from, AreBehind, scripts_in}
+use Rattle.wx_run.specs.Cursors.{cursor_of, cursor_at_start, cursors_from, AreBehind, scripts_in, is_spent_at}
 use Rattle.wx_run.specs.Round.{AllStand, Follows, IsWithinLimit}
-use Rattle.wx_run.specs.Running.{AreRounds}
+use Rattle.wx_run.specs.Running.{AreReady, AreRounds}
 use Rattle.wx_run.specs.Run.{IsRunOf}
 use Rattle.wx_run.specs.Hosts.{AreHostsWithin}
 use Rattle.wx_run.specs.Slots.{HostsStand}
@@ -50,6 +50,7 @@ use Rattle.wx_run.specs.Step.{IsReady, Moves, IsStep}
 use Rattle.wx_run.proofs.ListLemmas.{take-snoc, length-take-at}
 use Rattle.wx_run.proofs.CursorLemmas.{place_of-own, place_of-other, entries_by-own, entries_by-other, cursors_from-later, cursors_from-append, scripts_in-cursors_from}
 use Rattle.wx_run.proofs.SeenLemmas.{may_stand}
+use Rattle.wx_run.proofs.EndLemmas.{unspent-append}
 use Rattle.wx_run.proofs.RoundLemmas.{follows_script, within_more}
 use Rattle.wx_run.proofs.RunLemmas.{begins_with}
 
@@ -262,6 +263,14 @@ listen_made world s c x l p past after below first cursor moves =
     ∙ listen_answer world past c x l below in
     same_entry moves.entry c l moves.own call_is answer_is
 
+-- an endpoint that made two entries is not spent
+two_unspent : (world : WorldLists) (s : List Command) (c : ContextNo) (p : CursorState) (before after : List Entry) → cursor_at_start s ≡ cursor_of s c before → Moves world c (cursor_at_start s) p before after → is_spent_at p ≡ false
+two_unspent world s c p before after cursor moves =
+    let first : 1 ≡ entries_by c before = ap (λ (p : CursorState). p.made) cursor in
+    let made : p.made ≡ entries_by c before + 1 = ap (λ (p : CursorState). p.made) moves.behind ∙ ap (entries_by c) moves.made ∙ entries_by-own c before moves.entry moves.own in
+    let two : p.made ≡ 2 = omega (arith, first, made) in
+    ap (λ n. nat_le entry_limit n && not (is_left p.place)) two
+
 begins_more : (endpoints : List SceneEndpoint) (i : ℕ) (e : SceneEndpoint) (o : Option Listens) (past after : List Entry) → slice_get endpoints i ≡ Some e → first_listen e.script ≡ o
     → past ≡ reverse (opening_from 0 (take i endpoints)) → after ≡ reverse (entered (numbered i) e.context ∷ option_to_list (option_map (listened (numbered i)) o)) ++ past
     → after ≡ reverse (opening_from 0 (take (i + 1) endpoints))
@@ -276,6 +285,7 @@ opened_by : (world : WorldLists) (endpoints : List SceneEndpoint) (i : ℕ) (e :
     → IsOpenedBy world (numbered i) e.script o p (entered (numbered i) e.context ∷ past) after → OpenedSoFar world endpoints (i + 1) (ps ++ p ∷ []) after
 opened_by world endpoints i e None ps p past after is first so came opened =
     let before = entered (numbered i) e.context ∷ past in
+    let started : is_spent_at (cursor_at_start e.script) ≡ false = refl in
     let here : OpenedSoFar world endpoints (i + 1) (ps ++ p ∷ []) before = record {
       legal = came.legal;
       begins = begins_more endpoints i e None past before is first so.begins refl;
@@ -283,6 +293,7 @@ opened_by world endpoints i e None ps p past after is first so came opened =
       all_in = came.all_in;
       follows = came.follows;
       within_limit = came.within_limit;
+      unspent = unspent-append ps 0 p so.unspent (ap is_spent_at opened.0 ∙ started);
       no_hosts = came.no_hosts;
     } in
     subst (λ j. OpenedSoFar world endpoints (i + 1) (ps ++ p ∷ []) j) (sym opened.1) here
@@ -305,6 +316,7 @@ opened_by world endpoints i e (Some l) ps p past after is first so came opened =
             };
             follows = (came.follows, follows_script (scripts_at endpoints) before c s x moves.own at moves.asked);
             within_limit = within_more c before x moves.own moves.within_limit came.within_limit;
+            unspent = unspent-append ps 0 p so.unspent (two_unspent world s c p before after came.cursor moves);
             no_hosts = ap (λ (e : Entry). hosts (e ∷ before)) made ∙ ap (λ started. started ++ []) came.no_hosts;
           } in
           subst (λ j. OpenedSoFar world endpoints (i + 1) (ps ++ p ∷ []) j) (sym moves.made) here
@@ -324,7 +336,7 @@ opened_step world endpoints i e ps p past after is so opened =
 
 -- before the first endpoint
 pub opened_none : (world : WorldLists) (endpoints : List SceneEndpoint) → OpenedSoFar world endpoints 0 [] []
-opened_none world endpoints = record { legal = tt; begins = refl; behind = refl; all_in = record { counted = refl; below = tt }; follows = tt; within_limit = λ c. omega arith; no_hosts = refl }
+opened_none world endpoints = record { legal = tt; begins = refl; behind = refl; all_in = record { counted = refl; below = tt }; follows = tt; within_limit = λ c. omega arith; unspent = refl; no_hosts = refl }
 
 -- the cursors with one more
 pub opened_push : (world : WorldLists) (endpoints : List SceneEndpoint) (i : ℕ) (ps qs : List CursorState) (p : CursorState) (b : Bool) (past : List Entry) → qs ≡ cond b (ps ++ p ∷ []) ps → b ≡ true
@@ -345,7 +357,7 @@ opened_behind world endpoints ps past so = so.behind ∙ ap (λ ss. cursors_from
 opened_scripts : (world : WorldLists) (endpoints : List SceneEndpoint) (ps : List CursorState) (past : List Entry) → OpenedSoFar world endpoints (length endpoints) ps past → scripts_in ps ≡ scripts_at endpoints
 opened_scripts world endpoints ps past so = ap scripts_in (opened_behind world endpoints ps past so) ∙ scripts_in-cursors_from (scripts_at endpoints) 0 past
 
-pub opened_stand : (world : WorldLists) (endpoints : List SceneEndpoint) (ps : List CursorState) (past : List Entry) → OpenedSoFar world endpoints (length endpoints) ps past → AllStand world (scripts_in ps) ps past
+opened_stand : (world : WorldLists) (endpoints : List SceneEndpoint) (ps : List CursorState) (past : List Entry) → OpenedSoFar world endpoints (length endpoints) ps past → AllStand world (scripts_in ps) ps past
 opened_stand world endpoints ps past so =
     let all : length (scripts_at endpoints) ≡ length endpoints = length-map endpoints (λ (e : SceneEndpoint). e.script) in
     subst (λ ss. AllStand world ss ps past) (sym (opened_scripts world endpoints ps past so)) (record {
@@ -363,7 +375,7 @@ none_of_hosts n (e ∷ past) h below =
     omega (arith, one, none_of_hosts n past h below.0)
 
 -- no host was called yet
-pub opened_hosts : (writing : Option Writing) (world : WorldLists) (endpoints : List SceneEndpoint) (ps : List CursorState) (past : List Entry) → OpenedSoFar world endpoints (length endpoints) ps past → HostsStand writing world past []
+opened_hosts : (writing : Option Writing) (world : WorldLists) (endpoints : List SceneEndpoint) (ps : List CursorState) (past : List Entry) → OpenedSoFar world endpoints (length endpoints) ps past → HostsStand writing world past []
 opened_hosts writing world endpoints ps past so =
     let none = λ (h : HostNo). none_of_hosts (length endpoints) past h so.all_in.below in
     record {
@@ -372,6 +384,14 @@ opened_hosts writing world endpoints ps past so =
       none_beyond = λ h beyond. none h;
       within_limit = λ h. subst (λ n. n ≤ host_limit + 2) (sym (none h)) (omega arith);
     }
+
+-- the first round may begin
+pub opened_ready : (writing : Option Writing) (world : WorldLists) (endpoints : List SceneEndpoint) (ps : List CursorState) (past : List Entry) → OpenedSoFar world endpoints (length endpoints) ps past → AreReady writing world (scripts_in ps) ps [] past
+opened_ready writing world endpoints ps past so = record {
+  endpoints = opened_stand world endpoints ps past so;
+  hosts_stand = opened_hosts writing world endpoints ps past so;
+  go_on = record { unspent = so.unspent; hosts_unspent = refl; all = ap length (sym so.no_hosts); started = tt };
+}
 
 pub opened_rounds : (world : WorldLists) (scene : SceneValue) (ps : List CursorState) (opened after : List Entry) (end : RunEnd) → OpenedSoFar world scene.endpoints (length scene.endpoints) ps opened → AreRounds (scripts_in ps) opened after end
     → AreRounds (scripts_of scene) (reverse (opening scene)) after end

@@ -20,12 +20,12 @@ use Rattle.wx_run.specs.declared.rounds.Rounded.TheVariants.{Idle, Spent}
 use Rattle.wx_run.specs.Cursors.{cursor_of, cursors_from, AreBehind, is_spent_at, first_spent_in, work_in, scripts_in}
 use Rattle.wx_run.specs.Rounds.{Turn, Turns}
 use Rattle.wx_run.specs.Step.{IsReady, Moves, Rests, IsStep}
-use Rattle.wx_run.specs.Round.{AllStand, IsWithinLimit, AreIdleBelow, IdleUnlessMoved, RoundSoFar, IsRound, Falls, Lessens}
+use Rattle.wx_run.specs.Round.{AllStand, IsWithinLimit, AreIdleBelow, IdleUnlessMoved, RoundSoFar, IsRound, SpendsEndpoint, Falls, Lessens}
 use Rattle.wx_run.proofs.ListLemmas.{take-snoc, length-take-at, set_same, element_at}
 use Rattle.wx_run.proofs.SeenLemmas.{carries_on}
 use Rattle.wx_run.proofs.CursorLemmas.{cursors_from-own, slice_get-cursors_from, length-cursors_from, scripts_in-cursors_from, entries_by-own, entries_by-other}
 use Rattle.wx_run.proofs.HostLemmas.{one_host_more}
-use Rattle.wx_run.proofs.EndLemmas.{unspent_at, unspent-set, spent-set}
+use Rattle.wx_run.proofs.EndLemmas.{spent_behind, unspent_at, unspent-set, spent-set}
 
 -- the endpoint of number i, its cursor, and the cursors behind its turn
 pub record At (scripts : List (List Command)) (i : ℕ) (ps qs : List CursorState) (p q : CursorState) : Type 0 where
@@ -143,13 +143,18 @@ round_moves world scripts i ps qs p q a b c moved so at moves is = record {
 round_spends : (world : WorldLists) (scripts : List (List Command)) (i : ℕ) (ps qs : List CursorState) (p q : CursorState) (a b c : List Entry) (moved : Bool)
     → RoundSoFar world scripts i ps a b moved → At scripts i ps qs p q → Moves world (numbered i) p q b c → is_spent_at q ≡ true
     → AllStand world scripts qs c × IsRound scripts qs a c (Spent (Endpoint i))
-round_spends world scripts i ps qs p q a b c moved so at moves is = (
-  moved_stand world scripts i ps qs p q b c so.stand at moves,
-  (
-    turns_step scripts i at.script a b c at.is_endpoint so.turns (inl (record { entry = moves.entry; own = moves.own; made = moves.made })),
-    ap (first_spent_in 0) at.changed ∙ spent-set ps 0 i i q at.below (omega arith) so.unspent is,
-  ),
-)
+round_spends world scripts i ps qs p q a b c moved so at moves is =
+    let stand = moved_stand world scripts i ps qs p q b c so.stand at moves in
+    let spends : SpendsEndpoint scripts i a c = record {
+      past = b;
+      earlier = so.turns;
+      last = moves.entry;
+      made = moves.made;
+      turns = turns_step scripts i at.script a b c at.is_endpoint so.turns (inl (record { entry = moves.entry; own = moves.own; made = moves.made }));
+      unspent = spent_behind scripts ps b so.stand.behind ∙ so.unspent;
+      spent = spent_behind scripts qs c stand.behind ∙ ap (first_spent_in 0) at.changed ∙ spent-set ps 0 i i q at.below (omega arith) so.unspent is;
+    } in
+    (stand, spends)
 
 same_cursors : (scripts : List (List Command)) (i : ℕ) (ps qs : List CursorState) (p q : CursorState) → At scripts i ps qs p q → q ≡ p → qs ≡ ps
 same_cursors scripts i ps qs p q at same = at.changed ∙ ap (λ q. set ps i q) same ∙ set_same ps i p at.stands

@@ -22,48 +22,98 @@ use Rattle.wx_run.specs.declared.rounds.Rounded.{Rounded}
 use Rattle.wx_run.specs.declared.rounds.Rounded.TheVariants.{Moved, Idle, Spent}
 use Rattle.wx_run.specs.declared.outcome.RunEnd.{RunEnd}
 use Rattle.wx_run.specs.declared.outcome.RunEnd.TheVariants as end
-use Rattle.wx_run.specs.Cursors.{first_spent_in, all_left, work_in}
+use Rattle.wx_run.specs.Cursors.{AreBehind, first_spent_in, all_left, work_in}
 use Rattle.wx_run.specs.Hosts.{HaveEnded, NoneReady, spent_host, HostTurns, host_numbered, IsFirstUnended, HaveRecords}
-use Rattle.wx_run.specs.Slots.{HostsStand, all_turns_left, keeping}
-use Rattle.wx_run.specs.Serving.{HostsServed, FirstHeard}
-use Rattle.wx_run.specs.Rounds.{Turns, Round, of_all, of_first_host, Rounds, of_endpoints, of_hosts, IsCutShort, IsSpent}
+use Rattle.wx_run.specs.Slots.{HostsStand, first_spent_slot, all_turns_left, keeping}
+use Rattle.wx_run.specs.Serving.{SpendsHost, HostsServed, FirstHeard}
+use Rattle.wx_run.specs.Rounds.{Turns, Round, of_all, of_first_host, Rounds, FirstTurns, of_endpoints, of_hosts, whole, IsCutShort, IsSpent}
 use Rattle.wx_run.specs.Round.{AllStand, IsRound, RoundLessens}
 use Rattle.wx_run.specs.Run.{BeginsWith, HasEnd}
-use Rattle.wx_run.specs.Running.{AreReady, AllTurns, IsWholeRound, RoundOrNone, IsNextRound, turns_in, TurnsLessen, KeepsPlaces, AreRounds, RoundsSoFar}
+use Rattle.wx_run.specs.Running.{AreReady, MayGoOn, AllTurns, IsWholeRound, RoundOrNone, IsNextRound, turns_in, TurnsLessen, KeepsPlaces, AreRounds, RoundsSoFar}
 use Rattle.wx_run.proofs.EndLemmas.{spent_behind, done_behind, left_behind}
 use Rattle.wx_run.proofs.SlotLemmas.{records_meet, unspent_behind}
 use Rattle.wx_run.proofs.HostEntries.{host_turns_stay, says_stays, hosts_stay}
-use Rattle.wx_run.proofs.HostLemmas.{grows_on, Turns_grow, by_hosts_grow, endpoints_stand, Turns_keep, Rounds_grow, same_or_more}
+use Rattle.wx_run.proofs.HostLemmas.{grows_on, Turns_grow, by_hosts_grow, still_behind, endpoints_stand, Turns_keep, Rounds_grow, same_or_more}
+
+-- ---- nobody is spent
+
+not_some : {A : Type 0} (o : Option A) (x : A) → o ≡ None → o ≡ Some x → ⊥
+not_some o x none some = let never : Some x ≡ None = sym some ∙ none in cc
+
+not_spent : (scripts : List (List Command)) (past : List Entry) → spent_of scripts past ≡ None → spent_host past ≡ None → ¬ IsSpent scripts past
+not_spent scripts past endpoints none (inl (n, is)) = not_some (spent_of scripts past) n endpoints is
+not_spent scripts past endpoints none (inr (h, is)) = not_some (spent_host past) h none is
+
+-- where another round may begin
+none_spent : (writing : Option Writing) (world : WorldLists) (scripts : List (List Command)) (ps : List CursorState) (slots : List SlotState) (past : List Entry) → AreReady writing world scripts ps slots past → ¬ IsSpent scripts past
+none_spent writing world scripts ps slots past ready =
+    not_spent scripts past (spent_behind scripts ps past ready.endpoints.behind ∙ ready.go_on.unspent) (unspent_behind writing world past slots ready.hosts_stand ready.go_on.hosts_unspent)
+
+-- ---- rounds that are cut short
+
+-- an endpoint is spent by the last entry
+pub whole_cut : (writing : Option Writing) (world : WorldLists) (scripts : List (List Command)) (ps : List CursorState) (slots : List SlotState) (a b : List Entry) (who : SpentWho) → HostsStand writing world a slots → first_spent_slot 0 slots ≡ None
+    → IsRound scripts ps a b (Spent who) → IsWholeRound scripts ps slots a b (Spent who)
+whole_cut writing world scripts ps slots a b (Endpoint n) stand unspent spends =
+    let hosts_stand = Turns_keep writing world (take n scripts) 0 a spends.past slots spends.earlier stand in
+    let cut : IsCutShort scripts a b = record {
+      turns = of_endpoints (n + 1) spends.turns;
+      last = spends.last;
+      past = spends.past;
+      made = spends.made;
+      unspent = not_spent scripts spends.past spends.unspent (unspent_behind writing world spends.past slots hosts_stand unspent);
+      spent = inl (n, spends.spent);
+    } in
+    (cut, spends.spent)
+whole_cut writing world scripts ps slots a b (Host h) stand unspent round = absurd round
+
+-- a host is spent by the last entry, and no endpoint is
+cut_by_host : (scripts : List (List Command)) (ps : List CursorState) (a b c : List Entry) (h : HostNo) → FirstTurns scripts a c → AreBehind scripts ps b → AreBehind scripts ps c → first_spent_in 0 ps ≡ None → SpendsHost h b c
+    → IsCutShort scripts a c × HasEnd scripts c (end.Spent (Host h))
+cut_by_host scripts ps a b c h turns before after unspent spends =
+    let cut : IsCutShort scripts a c = record {
+      turns = turns;
+      last = spends.last;
+      past = b;
+      made = spends.made;
+      unspent = not_spent scripts b (spent_behind scripts ps b before ∙ unspent) spends.unspent;
+      spent = inr (h, spends.spent);
+    } in
+    (cut, (spent_behind scripts ps c after ∙ unspent, spends.spent))
 
 -- ---- a whole round
 
 -- where no host is ready, all make a turn in which they do nothing
-none_turn : (n : ℕ) (past : List Entry) → n ≤ length (hosts past) → NoneReady past → HostTurns n past past
-none_turn zero past within none = refl
-none_turn (suc n) past within none = (past, none_turn n past (omega arith) none, rested (none (host_numbered n) (omega arith)) refl)
-
--- an endpoint is spent
-pub whole_cut : (scripts : List (List Command)) (ps : List CursorState) (slots : List SlotState) (a b : List Entry) (who : SpentWho) → IsRound scripts ps a b (Spent who) → IsWholeRound scripts ps slots a b (Spent who)
-whole_cut scripts ps slots a b (Endpoint n) round = (of_endpoints (n + 1) round.0, round.1)
-whole_cut scripts ps slots a b (Host h) round = absurd round
+none_turn : (known n : ℕ) (past : List Entry) → n ≤ length (hosts past) → NoneReady past → HostTurns known n past past
+none_turn known zero past within none = refl
+none_turn known (suc n) past within none = (past, none_turn known n past (omega (arith, within)) none, rested (none (host_numbered n) (omega (arith, within))) refl)
 
 -- the hosts made their turns behind all endpoints, and one did something or is spent
-pub whole_served : (scripts : List (List Command)) (ps : List CursorState) (old new : List SlotState) (a b c : List Entry) (r : Rounded) → Turns scripts 0 a b → first_spent_in 0 ps ≡ None
-    → (r ≡ Idle → ⊥) → HostsServed b c old new r → IsWholeRound scripts ps new a c r
-whole_served scripts ps old new a b c Moved turns unspent moved served = ((b, turns, served.0), unspent, served.1)
-whole_served scripts ps old new a b c Idle turns unspent moved served = absurd (moved refl)
-whole_served scripts ps old new a b c (Spent (Endpoint n)) turns unspent moved served = absurd served
-whole_served scripts ps old new a b c (Spent (Host h)) turns unspent moved served = (of_hosts b served.0 turns served.1 served.2, unspent, served.3)
+pub whole_served : (world : WorldLists) (scripts : List (List Command)) (ps : List CursorState) (old new : List SlotState) (a b c : List Entry) (r : Rounded) → AllStand world scripts ps b → Turns scripts 0 a b → first_spent_in 0 ps ≡ None
+    → length new ≡ length (hosts b) → (r ≡ Idle → ⊥) → HostsServed (length (hosts a)) b c old new r → IsWholeRound scripts ps new a c r
+whole_served world scripts ps old new a b c Moved stand turns unspent size moved served =
+    let kept = ap length (hosts_stay b c (host_turns_stay (length (hosts a)) (length (hosts b)) b c served.0)) in
+    ((b, turns, served.0), record { unspent = unspent; hosts_unspent = served.1; all = size ∙ sym kept; started = served.2 })
+whole_served world scripts ps old new a b c Idle stand turns unspent size moved served = absurd (moved refl)
+whole_served world scripts ps old new a b c (Spent (Endpoint n)) stand turns unspent size moved served = absurd served
+whole_served world scripts ps old new a b c (Spent (Host h)) stand turns unspent size moved (n, past, below, earlier, turn, spends) =
+    let known = length (hosts a) in
+    let all : HostTurns known (suc n) b c = (past, earlier, turn) in
+    let before = still_behind scripts ps b past stand.behind (host_turns_stay known n b past earlier) in
+    let after = still_behind scripts ps b c stand.behind (host_turns_stay known (suc n) b c all) in
+    cut_by_host scripts ps a past c h (of_hosts b (suc n) turns (omega (arith, below)) all) before after unspent spends
 
 -- they could do nothing behind all endpoints
 pub whole_rested : (scripts : List (List Command)) (ps : List CursorState) (old new : List SlotState) (a b c : List Entry) (r : Rounded) → IsRound scripts ps a b r → ((who : SpentWho) → r ≡ Spent who → ⊥)
-    → length old ≡ length (hosts b) → HostsServed b c old new Idle → IsWholeRound scripts ps new a c r
+    → length old ≡ length (hosts b) → HostsServed (length (hosts a)) b c old new Idle → IsWholeRound scripts ps new a c r
 whole_rested scripts ps old new a b c Moved round unspent all (same, none, started, hosts_unspent, same_slots) =
-    let here : AllTurns scripts a b = (b, round.0, none_turn (length (hosts b)) b (omega arith) none) in
-    (subst (λ j. AllTurns scripts a j) (sym same) here, round.1, hosts_unspent)
+    let known = length (hosts a) in
+    let here : AllTurns scripts a b = (b, round.0, none_turn known (length (hosts b)) b (omega arith) none) in
+    let counted : length new ≡ length (hosts c) = ap length same_slots ∙ all ∙ sym (ap (λ j. length (hosts j)) same) in
+    (subst (λ j. AllTurns scripts a j) (sym same) here, record { unspent = round.1; hosts_unspent = hosts_unspent; all = counted; started = started })
 whole_rested scripts ps old new a b c Idle round unspent all (same, none, started, hosts_unspent, same_slots) =
     let counted : length new ≡ length (hosts c) = ap length same_slots ∙ all ∙ sym (ap (λ j. length (hosts j)) same) in
-    (same ∙ round.3, round.2, subst (λ j. NoneReady j) round.3 none, started, counted, round.1, hosts_unspent)
+    (same ∙ round.3, round.2, subst (λ j. NoneReady j) round.3 none, record { unspent = round.1; hosts_unspent = hosts_unspent; all = counted; started = started })
 whole_rested scripts ps old new a b c (Spent who) round unspent all served = absurd (unspent who refl)
 
 -- ---- what stands behind a whole round
@@ -72,7 +122,7 @@ whole_rested scripts ps old new a b c (Spent who) round unspent all served = abs
 pub round_keeps : (writing : Option Writing) (world : WorldLists) (scripts : List (List Command)) (ps : List CursorState) (slots : List SlotState) (a b : List Entry) (r : Rounded) → IsRound scripts ps a b r → HostsStand writing world a slots → HostsStand writing world b slots
 round_keeps writing world scripts ps slots a b Moved round stand = Turns_keep writing world scripts 0 a b slots round.0 stand
 round_keeps writing world scripts ps slots a b Idle round stand = Turns_keep writing world scripts 0 a b slots round.0 stand
-round_keeps writing world scripts ps slots a b (Spent (Endpoint n)) round stand = Turns_keep writing world (take (n + 1) scripts) 0 a b slots round.0 stand
+round_keeps writing world scripts ps slots a b (Spent (Endpoint n)) round stand = Turns_keep writing world (take (n + 1) scripts) 0 a b slots round.turns stand
 round_keeps writing world scripts ps slots a b (Spent (Host h)) round stand = absurd round
 
 -- all endpoints made their turns, unless one is spent
@@ -82,11 +132,11 @@ round_made scripts ps a b Idle round unspent = (round.0, round.1)
 round_made scripts ps a b (Spent who) round unspent = absurd (unspent who refl)
 
 -- the endpoints stand behind the turns of hosts
-pub served_stand : (world : WorldLists) (scripts : List (List Command)) (ps : List CursorState) (old new : List SlotState) (a b : List Entry) (r : Rounded) → AllStand world scripts ps a → HostsServed a b old new r → EachAfter (FollowsMachine world) b → AllStand world scripts ps b
-served_stand world scripts ps old new a b Moved stand served legal = endpoints_stand world scripts ps a b stand (host_turns_stay (length (hosts a)) a b served.0) legal
-served_stand world scripts ps old new a b Idle stand served legal = subst (λ j. AllStand world scripts ps j) (sym served.0) stand
-served_stand world scripts ps old new a b (Spent (Endpoint n)) stand served legal = absurd served
-served_stand world scripts ps old new a b (Spent (Host h)) stand served legal = endpoints_stand world scripts ps a b stand (host_turns_stay served.0 a b served.2) legal
+pub served_stand : (world : WorldLists) (scripts : List (List Command)) (ps : List CursorState) (known : ℕ) (old new : List SlotState) (a b : List Entry) (r : Rounded) → AllStand world scripts ps a → HostsServed known a b old new r → EachAfter (FollowsMachine world) b → AllStand world scripts ps b
+served_stand world scripts ps known old new a b Moved stand served legal = endpoints_stand world scripts ps a b stand (host_turns_stay known (length (hosts a)) a b served.0) legal
+served_stand world scripts ps known old new a b Idle stand served legal = subst (λ j. AllStand world scripts ps j) (sym served.0) stand
+served_stand world scripts ps known old new a b (Spent (Endpoint n)) stand served legal = absurd served
+served_stand world scripts ps known old new a b (Spent (Host h)) stand (n, past, below, earlier, turn, spends) legal = endpoints_stand world scripts ps a b stand (host_turns_stay known (suc n) a b (past, earlier, turn)) legal
 
 -- and behind that of the first host
 pub heard_stand : (world : WorldLists) (scripts : List (List Command)) (ps : List CursorState) (old new : List SlotState) (a b : List Entry) (r : Rounded) → AllStand world scripts ps a → FirstHeard a b old new r → EachAfter (FollowsMachine world) b → AllStand world scripts ps b
@@ -97,22 +147,13 @@ heard_stand world scripts ps old new a b (Spent (Host g)) stand heard legal = en
 
 -- ---- fewer turns are left
 
--- as many as are left where each host has its slot
-abbrev turns_with_all : ℕ → ℕ → ℕ
-turns_with_all work left = (host_limit + 5) * work + left
-
-all_slots : (ps : List CursorState) (slots : List SlotState) (past : List Entry) → length slots ≡ length (hosts past) → turns_in ps slots past ≡ turns_with_all (work_in ps) (all_turns_left slots)
-all_slots ps slots past all =
-    let none : length (hosts past) - length slots ≡ 0 = omega (arith, all) in
-    ap (λ n. (host_limit + 5) * work_in ps + (host_limit + 4) * n + all_turns_left slots) none ∙ omega arith
-
 -- behind an entry, whatever the hosts did
-moved_fewer : (w v g h s k l m : ℕ) → v < w → h + v ≤ g + w → s ≤ g → l ≡ k + (host_limit + 4) * (h - s) → m ≤ l → turns_with_all v m < (host_limit + 5) * w + (host_limit + 4) * (g - s) + k
-moved_fewer w v g h s k l m less called below left most = omega (arith, less, called, below, left, most)
+moved_fewer : (w v g h k l m : ℕ) → v < w → h + v ≤ g + w → l ≡ k + (host_limit + 4) * (h - g) → m ≤ l → (host_limit + 5) * v + m < (host_limit + 5) * w + k
+moved_fewer w v g h k l m less called left most = omega (arith, less, called, left, most)
 
 -- behind the turn of a host
-served_fewer : (w v g h s k l m : ℕ) → v ≤ w → h + v ≤ g + w → s ≤ g → l ≡ k + (host_limit + 4) * (h - s) → m < l → turns_with_all v m < (host_limit + 5) * w + (host_limit + 4) * (g - s) + k
-served_fewer w v g h s k l m less called below left most = omega (arith, less, called, below, left, most)
+served_fewer : (w v g h k l m : ℕ) → v ≤ w → h + v ≤ g + w → l ≡ k + (host_limit + 4) * (h - g) → m < l → (host_limit + 5) * v + m < (host_limit + 5) * w + k
+served_fewer w v g h k l m less called left most = omega (arith, less, called, left, most)
 
 -- at the slots that were added, which are all
 pub record SlotsAdded (old new : List SlotState) (past : List Entry) : Type 0 where
@@ -128,8 +169,10 @@ slots_added state old new past all left =
       left = left ∙ ap (λ n. all_turns_left (slots_of state old) + (host_limit + 4) * n) more;
     }
 
-left_so : (old mid : List SlotState) (b : List Entry) → SlotsAdded old mid b → all_turns_left mid ≡ all_turns_left old + (host_limit + 4) * (length (hosts b) - length old)
-left_so old mid b added = subst (λ n. all_turns_left mid ≡ all_turns_left old + (host_limit + 4) * (n - length old)) added.all added.left
+left_so : (old mid : List SlotState) (a b : List Entry) → length old ≡ length (hosts a) → SlotsAdded old mid b → all_turns_left mid ≡ all_turns_left old + (host_limit + 4) * (length (hosts b) - length (hosts a))
+left_so old mid a b known added =
+    subst (λ n. all_turns_left mid ≡ all_turns_left old + (host_limit + 4) * (length (hosts b) - n)) known
+    (subst (λ n. all_turns_left mid ≡ all_turns_left old + (host_limit + 4) * (n - length old)) added.all added.left)
 
 -- the endpoints' part of a round never leaves more
 no_more : (ps qs : List CursorState) (a b : List Entry) (r : Rounded) → RoundLessens ps qs a b r → ((who : SpentWho) → r ≡ Spent who → ⊥) → (work_in qs ≤ work_in ps) × (length (hosts b) + work_in qs ≤ length (hosts a) + work_in ps)
@@ -137,59 +180,48 @@ no_more ps qs a b Moved less unspent = (let fewer = less.fewer in omega arith, l
 no_more ps qs a b Idle less unspent = (let fewer = less.fewer in omega arith, less.one_host_each)
 no_more ps qs a b (Spent who) less unspent = absurd (unspent who refl)
 
-pub served_lessens : (ps qs : List CursorState) (old mid new : List SlotState) (a b c : List Entry) (r : Rounded) (made : Rounded) → RoundLessens ps qs a b made → ((who : SpentWho) → made ≡ Spent who → ⊥)
-    → length old ≤ length (hosts a) → SlotsAdded old mid b → length new ≡ length mid → (r ≡ Idle → ⊥) → HostsServed b c mid new r → TurnsLessen (turns_in ps old a) (turns_in qs new c) r
-served_lessens ps qs old mid new a b c Moved made less unspent below added same_size moved served =
+pub served_lessens : (ps qs : List CursorState) (known : ℕ) (old mid new : List SlotState) (a b c : List Entry) (r : Rounded) (made : Rounded) → RoundLessens ps qs a b made → ((who : SpentWho) → made ≡ Spent who → ⊥)
+    → length old ≡ length (hosts a) → SlotsAdded old mid b → (r ≡ Idle → ⊥) → HostsServed known b c mid new r → TurnsLessen (turns_in ps old) (turns_in qs new) r
+served_lessens ps qs known old mid new a b c Moved made less unspent all added moved served =
     let few = no_more ps qs a b made less unspent in
-    let kept = ap length (hosts_stay b c (host_turns_stay (length (hosts b)) b c served.0)) in
-    let all : length new ≡ length (hosts c) = same_size ∙ added.all ∙ sym kept in
-    subst (λ n. n < turns_in ps old a) (sym (all_slots qs new c all))
-    (served_fewer (work_in ps) (work_in qs) (length (hosts a)) (length (hosts b)) (length old) (all_turns_left old) (all_turns_left mid) (all_turns_left new) few.0 few.1 below (left_so old mid b added) served.2)
-served_lessens ps qs old mid new a b c Idle made less unspent below added same_size moved served = absurd (moved refl)
-served_lessens ps qs old mid new a b c (Spent who) made less unspent below added same_size moved served = tt
+    served_fewer (work_in ps) (work_in qs) (length (hosts a)) (length (hosts b)) (all_turns_left old) (all_turns_left mid) (all_turns_left new) few.0 few.1 (left_so old mid a b all added) served.3
+served_lessens ps qs known old mid new a b c Idle made less unspent all added moved served = absurd (moved refl)
+served_lessens ps qs known old mid new a b c (Spent who) made less unspent all added moved served = tt
 
-pub rested_lessens : (scripts : List (List Command)) (ps qs : List CursorState) (old mid new : List SlotState) (a b c : List Entry) (r : Rounded) → IsRound scripts qs a b r → RoundLessens ps qs a b r
-    → length old ≤ length (hosts a) → SlotsAdded old mid b → HostsServed b c mid new Idle → TurnsLessen (turns_in ps old a) (turns_in qs new c) r
-rested_lessens scripts ps qs old mid new a b c Moved round less below added served =
-    let all : length new ≡ length (hosts c) = ap length served.4 ∙ added.all ∙ sym (ap (λ j. length (hosts j)) served.0) in
+pub rested_lessens : (scripts : List (List Command)) (ps qs : List CursorState) (known : ℕ) (old mid new : List SlotState) (a b c : List Entry) (r : Rounded) → IsRound scripts qs a b r → RoundLessens ps qs a b r
+    → length old ≡ length (hosts a) → SlotsAdded old mid b → HostsServed known b c mid new Idle → TurnsLessen (turns_in ps old) (turns_in qs new) r
+rested_lessens scripts ps qs known old mid new a b c Moved round less all added served =
     let most : all_turns_left new ≤ all_turns_left mid = (let same = ap all_turns_left served.4 in omega (arith, same)) in
-    subst (λ n. n < turns_in ps old a) (sym (all_slots qs new c all))
-    (moved_fewer (work_in ps) (work_in qs) (length (hosts a)) (length (hosts b)) (length old) (all_turns_left old) (all_turns_left mid) (all_turns_left new) less.fewer less.one_host_each below (left_so old mid b added) most)
-rested_lessens scripts ps qs old mid new a b c Idle round less below added served =
-    let all : length new ≡ length (hosts c) = ap length served.4 ∙ added.all ∙ sym (ap (λ j. length (hosts j)) served.0) in
-    let left : all_turns_left new ≡ all_turns_left old + (host_limit + 4) * (length (hosts a) - length old) =
-    ap all_turns_left served.4 ∙ left_so old mid b added ∙ ap (λ j. all_turns_left old + (host_limit + 4) * (length (hosts j) - length old)) round.3 in
+    moved_fewer (work_in ps) (work_in qs) (length (hosts a)) (length (hosts b)) (all_turns_left old) (all_turns_left mid) (all_turns_left new) less.fewer less.one_host_each (left_so old mid a b all added) most
+rested_lessens scripts ps qs known old mid new a b c Idle round less all added served =
+    let called = ap (λ j. length (hosts j)) round.3 in
+    let left = ap all_turns_left served.4 ∙ left_so old mid a b all added in
     let same_work : work_in qs ≡ work_in ps = less.fewer in
-    all_slots qs new c all ∙ omega (arith, left, same_work)
-rested_lessens scripts ps qs old mid new a b c (Spent who) round less below added served = tt
+    omega (arith, called, left, same_work)
+rested_lessens scripts ps qs known old mid new a b c (Spent who) round less all added served = tt
 
 -- the turn of the first host
-pub heard_lessens : (ps : List CursorState) (old new : List SlotState) (a b : List Entry) (r : Rounded) → length old ≡ length (hosts a) → length new ≡ length old → FirstHeard a b old new r → TurnsLessen (turns_in ps old a) (turns_in ps new b) r
-heard_lessens ps old new a b Moved all same_size heard =
-    let kept = ap length (hosts_stay a b (says_stays heard.0.0 a b heard.0.2)) in
-    let fewer = heard.2 in
-    let before = all_slots ps old a all in
-    let after = all_slots ps new b (same_size ∙ all ∙ sym kept) in
-    omega (arith, before, after, fewer)
-heard_lessens ps old new a b Idle all same_size heard = ap (λ j. turns_in ps new j) heard.0 ∙ ap (λ slots. turns_in ps slots a) heard.2
-heard_lessens ps old new a b (Spent who) all same_size heard = tt
+pub heard_lessens : (ps : List CursorState) (old new : List SlotState) (a b : List Entry) (r : Rounded) → FirstHeard a b old new r → TurnsLessen (turns_in ps old) (turns_in ps new) r
+heard_lessens ps old new a b Moved heard = let fewer = heard.3 in omega (arith, fewer)
+heard_lessens ps old new a b Idle heard = ap (λ slots. turns_in ps slots) heard.2
+heard_lessens ps old new a b (Spent who) heard = tt
 
 -- ---- the next round
 
 all_or_none : (scripts : List (List Command)) (a b : List Entry) → AllTurns scripts a b → RoundOrNone scripts a b
 all_or_none scripts a b turns =
-    let grown = grows_on a turns.0 b (Turns_grow scripts 0 a turns.0 turns.1) (by_hosts_grow turns.0 b (host_turns_stay (length (hosts turns.0)) turns.0 b turns.2)) in
+    let by_hosts = host_turns_stay (length (hosts a)) (length (hosts turns.0)) turns.0 b turns.2 in
+    let grown = grows_on a turns.0 b (Turns_grow scripts 0 a turns.0 turns.1) (by_hosts_grow turns.0 b by_hosts) in
     elim (same_or_more a b grown) [
       | inl same ↦ inr same
       | inr moved ↦ inl (of_all turns.0 turns.1 turns.2 moved)
     ]
 
 -- a whole round in which somebody did something is the next
-pub next_whole : (world : WorldLists) (scripts : List (List Command)) (ps : List CursorState) (slots : List SlotState) (a b : List Entry) (r : Rounded) → AllStand world scripts ps b → (r ≡ Idle → ⊥) → IsWholeRound scripts ps slots a b r → IsNextRound scripts ps slots a b r
-next_whole world scripts ps slots a b Moved stand moved round = (all_or_none scripts a b round.0, round.1, round.2)
-next_whole world scripts ps slots a b Idle stand moved round = absurd (moved refl)
-next_whole world scripts ps slots a b (Spent (Endpoint n)) stand moved round = (a, inr refl, round.0, spent_behind scripts ps b stand.behind ∙ round.1)
-next_whole world scripts ps slots a b (Spent (Host h)) stand moved round = (a, inr refl, round.0, (spent_behind scripts ps b stand.behind ∙ round.1, round.2))
+pub next_whole : (scripts : List (List Command)) (ps : List CursorState) (slots : List SlotState) (a b : List Entry) (r : Rounded) → (r ≡ Idle → ⊥) → IsWholeRound scripts ps slots a b r → IsNextRound scripts ps slots a b r
+next_whole scripts ps slots a b Moved moved round = (all_or_none scripts a b round.0, round.1)
+next_whole scripts ps slots a b Idle moved round = absurd (moved refl)
+next_whole scripts ps slots a b (Spent who) moved round = round
 
 heard_round : (scripts : List (List Command)) (ps : List CursorState) (slots : List SlotState) (a b c : List Entry) → IsWholeRound scripts ps slots a b Idle → (h : HostNo) → IsFirstUnended b h → SaysOrEnds h b c → Round scripts a c
 heard_round scripts ps slots a b c idle h first turn =
@@ -197,20 +229,23 @@ heard_round scripts ps slots a b c idle h first turn =
     subst (λ j. Round scripts j c) idle.0 here
 
 -- where nobody could do anything, the first host's turn is the next round
-pub next_heard : (world : WorldLists) (scripts : List (List Command)) (ps : List CursorState) (old new : List SlotState) (a b c : List Entry) (r : Rounded) → AllStand world scripts ps c → IsWholeRound scripts ps old a b Idle
-    → FirstHeard b c old new r → IsNextRound scripts ps new a c r
-next_heard world scripts ps old new a b c Moved stand idle heard = (inl (heard_round scripts ps old a b c idle heard.0.0 heard.0.1 heard.0.2), idle.5, heard.1)
-next_heard world scripts ps old new a b c Idle stand idle heard = (
+pub next_heard : (world : WorldLists) (scripts : List (List Command)) (ps : List CursorState) (old new : List SlotState) (a b c : List Entry) (r : Rounded) → AllStand world scripts ps b → AllStand world scripts ps c → length new ≡ length old
+    → IsWholeRound scripts ps old a b Idle → FirstHeard b c old new r → IsNextRound scripts ps new a c r
+next_heard world scripts ps old new a b c Moved before after size idle heard =
+    let kept = ap length (hosts_stay b c (says_stays heard.0.0 b c heard.0.2)) in
+    let go_on : MayGoOn ps new c = record { unspent = idle.3.unspent; hosts_unspent = heard.1; all = size ∙ idle.3.all ∙ sym kept; started = heard.2 } in
+    (inl (heard_round scripts ps old a b c idle heard.0.0 heard.0.1 heard.0.2), go_on)
+next_heard world scripts ps old new a b c Idle before after size idle heard = (
   record {
     idle = subst (λ j. AreIdle scripts j) (sym (heard.0 ∙ idle.0)) idle.1;
     ended = subst (λ j. HaveEnded j) (sym heard.0) heard.1;
     same = heard.0 ∙ idle.0;
   },
-  idle.5,
+  idle.3.unspent,
 )
-next_heard world scripts ps old new a b c (Spent (Endpoint n)) stand idle heard = absurd heard
-next_heard world scripts ps old new a b c (Spent (Host g)) stand idle heard =
-    (c, inl (heard_round scripts ps old a b c idle heard.0.0 heard.0.1 heard.0.2), of_endpoints 0 refl, (spent_behind scripts ps c stand.behind ∙ idle.5, heard.1))
+next_heard world scripts ps old new a b c (Spent (Endpoint n)) before after size idle heard = absurd heard
+next_heard world scripts ps old new a b c (Spent (Host g)) before after size idle heard =
+    cut_by_host scripts ps a b c g (whole (heard_round scripts ps old a b c idle heard.0.0 heard.0.1 heard.0.2)) before.behind after.behind idle.3.unspent heard.1
 
 -- the same of what `hear_first` answers
 pub heard_stands : (world : WorldLists) (scripts : List (List Command)) (ps : List CursorState) (old new : List SlotState) (a b : List Entry) (result : Result Rounded NoMemory) → AllStand world scripts ps a
@@ -218,18 +253,18 @@ pub heard_stands : (world : WorldLists) (scripts : List (List Command)) (ps : Li
 heard_stands world scripts ps old new a b (Ok r) stand heard legal = heard_stand world scripts ps old new a b r stand heard legal
 heard_stands world scripts ps old new a b (Err e) stand heard legal = tt
 
-pub heard_next : (world : WorldLists) (scripts : List (List Command)) (ps : List CursorState) (old new : List SlotState) (a b c : List Entry) (result : Result Rounded NoMemory) → AllStand world scripts ps b → IsWholeRound scripts ps old a b Idle
-    → IfOk result (λ r. FirstHeard b c old new r) → OnOk result (EachAfter (FollowsMachine world) c) → IfOk result (λ r. IsNextRound scripts ps new a c r)
-heard_next world scripts ps old new a b c (Ok r) stand idle heard legal = next_heard world scripts ps old new a b c r (heard_stand world scripts ps old new b c r stand heard legal) idle heard
-heard_next world scripts ps old new a b c (Err e) stand idle heard legal = tt
+pub heard_next : (world : WorldLists) (scripts : List (List Command)) (ps : List CursorState) (old new : List SlotState) (a b c : List Entry) (result : Result Rounded NoMemory) → AllStand world scripts ps b → length new ≡ length old
+    → IsWholeRound scripts ps old a b Idle → IfOk result (λ r. FirstHeard b c old new r) → OnOk result (EachAfter (FollowsMachine world) c) → IfOk result (λ r. IsNextRound scripts ps new a c r)
+heard_next world scripts ps old new a b c (Ok r) stand size idle heard legal = next_heard world scripts ps old new a b c r stand (heard_stand world scripts ps old new b c r stand heard legal) size idle heard
+heard_next world scripts ps old new a b c (Err e) stand size idle heard legal = tt
 
 then_lessens : (m n k : ℕ) (r : Rounded) → n ≡ m → TurnsLessen n k r → TurnsLessen m k r
 then_lessens m n k r same less = subst (λ n. TurnsLessen n k r) same less
 
-pub heard_lessens_on : (before : ℕ) (scripts : List (List Command)) (ps : List CursorState) (old new : List SlotState) (a b c : List Entry) (result : Result Rounded NoMemory) → IsWholeRound scripts ps old a b Idle → turns_in ps old b ≡ before
-    → length new ≡ length old → IfOk result (λ r. FirstHeard b c old new r) → IfOk result (λ r. TurnsLessen before (turns_in ps new c) r)
-heard_lessens_on before scripts ps old new a b c (Ok r) idle same same_size heard = then_lessens before (turns_in ps old b) (turns_in ps new c) r same (heard_lessens ps old new b c r idle.4 same_size heard)
-heard_lessens_on before scripts ps old new a b c (Err e) idle same same_size heard = tt
+pub heard_lessens_on : (before : ℕ) (ps : List CursorState) (old new : List SlotState) (b c : List Entry) (result : Result Rounded NoMemory) → turns_in ps old ≡ before → IfOk result (λ r. FirstHeard b c old new r)
+    → IfOk result (λ r. TurnsLessen before (turns_in ps new) r)
+heard_lessens_on before ps old new b c (Ok r) same heard = then_lessens before (turns_in ps old) (turns_in ps new) r same (heard_lessens ps old new b c r heard)
+heard_lessens_on before ps old new b c (Err e) same heard = tt
 
 -- ---- places
 
@@ -300,25 +335,19 @@ round_now scripts ss ps slots a b r q same_scripts is round = subst (λ r. IsNex
 pub rounds_begin : (writing : Option Writing) (world : WorldLists) (scripts : List (List Command)) (ps : List CursorState) (slots : List SlotState) (a : List Entry) → AreReady writing world scripts ps slots a → RoundsSoFar writing world scripts ps slots a a
 rounds_begin writing world scripts ps slots a ready = record { ready = ready; rounds = λ m last r. (m, r) }
 
-not_some : {A : Type 0} (o : Option A) (x : A) → o ≡ None → o ≡ Some x → ⊥
-not_some o x none some = let never : Some x ≡ None = sym some ∙ none in cc
-
--- between two rounds nobody is spent
-none_spent : (writing : Option Writing) (world : WorldLists) (scripts : List (List Command)) (ps : List CursorState) (slots : List SlotState) (past : List Entry) → AreReady writing world scripts ps slots past → ¬ IsSpent scripts past
-none_spent writing world scripts ps slots past ready (inl (n, is)) = not_some (spent_of scripts past) n (spent_behind scripts ps past ready.endpoints.behind ∙ ready.unspent) is
-none_spent writing world scripts ps slots past ready (inr (h, is)) = not_some (spent_host past) h (unspent_behind writing world past slots ready.hosts_stand ready.hosts_unspent) is
-
 -- one round more, or none
-rounds_more : (scripts : List (List Command)) (b c : List Entry) → ¬ IsSpent scripts b → RoundOrNone scripts b c → (m : ℕ) (last : List Entry) → Rounds m scripts c last → (n : ℕ) × Rounds n scripts b last
-rounds_more scripts b c unspent (inl round) m last r = (suc m, (c, unspent, round, r))
-rounds_more scripts b c unspent (inr same) m last r = (m, subst (λ j. Rounds m scripts j last) same r)
+rounds_more : (scripts : List (List Command)) (b c : List Entry) → RoundOrNone scripts b c → ¬ IsSpent scripts c → (m : ℕ) (last : List Entry) → Rounds m scripts c last → (n : ℕ) × Rounds n scripts b last
+rounds_more scripts b c (inl round) unspent m last r = (suc m, (c, round, unspent, r))
+rounds_more scripts b c (inr same) unspent m last r = (m, subst (λ j. Rounds m scripts j last) same r)
 
 pub rounds_go_on : (writing : Option Writing) (world : WorldLists) (scripts : List (List Command)) (ps qs : List CursorState) (old new : List SlotState) (a b c : List Entry) → RoundsSoFar writing world scripts ps old a b
     → AllStand world scripts qs c → HostsStand writing world c new → IsNextRound scripts qs new b c Moved → RoundsSoFar writing world scripts qs new a c
-rounds_go_on writing world scripts ps qs old new a b c so stand hosts_stand round = record {
-  ready = record { endpoints = stand; unspent = round.1; hosts_stand = hosts_stand; hosts_unspent = round.2 };
-  rounds = λ m last r. let more = rounds_more scripts b c (none_spent writing world scripts ps old b so.ready) round.0 m last r in so.rounds more.0 last more.1;
-}
+rounds_go_on writing world scripts ps qs old new a b c so stand hosts_stand round =
+    let ready : AreReady writing world scripts qs new c = record { endpoints = stand; hosts_stand = hosts_stand; go_on = round.1 } in
+    record {
+      ready = ready;
+      rounds = λ m last r. let more = rounds_more scripts b c round.0 (none_spent writing world scripts qs new c ready) m last r in so.rounds more.0 last more.1;
+    }
 
 -- nobody can do anything
 pub rounds_idle : (writing : Option Writing) (world : WorldLists) (scripts : List (List Command)) (ps qs : List CursorState) (old new : List SlotState) (a b c : List Entry) → RoundsSoFar writing world scripts ps old a b → AllStand world scripts qs c
@@ -350,18 +379,9 @@ ends_spent scripts past (Host h) ends = inr (h, ends.1)
 -- somebody is spent
 pub rounds_spent : (writing : Option Writing) (world : WorldLists) (scripts : List (List Command)) (ps qs : List CursorState) (old new : List SlotState) (a b c : List Entry) (who : SpentWho) → RoundsSoFar writing world scripts ps old a b → AllStand world scripts qs c
     → IsNextRound scripts qs new b c (Spent who) → AreRounds scripts a c (end.Spent who)
-rounds_spent writing world scripts ps qs old new a b c who so stand (between, round, turns, ends) =
-    let cut : IsCutShort scripts between c = record { spent = ends_spent scripts c who ends; turns = turns } in
-    let last = rounds_more scripts b between (none_spent writing world scripts ps old b so.ready) round 0 c (inr cut) in
-    let rounds = so.rounds last.0 c last.1 in
+rounds_spent writing world scripts ps qs old new a b c who so stand (cut, ends) =
+    let rounds = so.rounds 0 c (inr cut) in
     record { count = rounds.0; rounds = rounds.1; follows = stand.follows; within_limit = stand.within_limit; ended = ends }
-
--- an endpoint is spent ahead of the first round
-pub spent_before : (world : WorldLists) (scripts : List (List Command)) (ps : List CursorState) (a : List Entry) (n : ℕ) → AllStand world scripts ps a → first_spent_in 0 ps ≡ Some n → AreRounds scripts a a (end.Spent (Endpoint n))
-spent_before world scripts ps a n stand is =
-    let spent : spent_of scripts a ≡ Some n = spent_behind scripts ps a stand.behind ∙ is in
-    let cut : IsCutShort scripts a a = record { spent = inl (n, spent); turns = of_endpoints 0 refl } in
-    record { count = 0; rounds = inr cut; follows = stand.follows; within_limit = stand.within_limit; ended = spent }
 
 -- a run ends with every host ended, or spent
 pub ended_or_spent : (scripts : List (List Command)) (past : List Entry) (e : RunEnd) → HasEnd scripts past e → HaveEnded past ⊎ IsSpent scripts past

@@ -1,10 +1,11 @@
 -- The hosts' part of a round, turn by turn. Every list of entries has the newest first.
-use Rattle.std.proofs.Common.{◌≡◌, ℕ, zero, suc, ◌+◌, ◌<◌, ◌≤◌, ◌⊎◌, inl, inr, length, set, get_or, cond, arith, Bool, true, false, List, [], ◌∷◌, refl, sym, ap, ◌∙◌, subst}
+use Rattle.std.proofs.Common.{◌≡◌, ℕ, zero, suc, ◌+◌, ◌<◌, ◌≤◌, ◌⊎◌, inl, inr, length, take, set, get_or, cond, arith, Bool, true, false, List, [], ◌∷◌, refl, sym, ap, ◌∙◌, subst}
 use Rattle.std.specs.declared.option.Option.{Option}
-use Rattle.std.specs.Prelude.{◌||◌, slice_get, Some, None}
-use Rattle.std.proofs.lemmas.Bool.{cases_lt}
+use Rattle.std.specs.Prelude.{◌||◌, not, nat_le, slice_get, Some, None}
+use Rattle.std.proofs.lemmas.Bool.{cases_lt, and_right, true≢false}
 use Rattle.std.proofs.lemmas.List.{length-set}
 use Rattle.std.proofs.lemmas.Option.{slice_get_within, slice_get_read}
+use Rattle.std.proofs.Math.Seq.{take-length}
 use Rattle.wx_id.specs.declared.numbers.HostNo.{HostNo}
 use Rattle.wx_external.specs.World.{WorldLists}
 use Rattle.wx_machine.specs.declared.entries.Entry.{Entry}
@@ -13,17 +14,17 @@ use Rattle.wx_machine.specs.Texts.{has_ended}
 use Rattle.wx_machine.specs.Answers.{is_host_ready}
 use Rattle.wx_script.specs.declared.scene.SpentWho.TheVariants.{Host}
 use Rattle.wx_host_launch.specs.Records.{Writing}
-use Rattle.wx_host_slot.specs.Slots.{SlotState, Stands, WasStarted, is_spent_at, turns_left, CameTo}
+use Rattle.wx_host_slot.specs.Slots.{SlotState, Stands, WasStarted, is_spent_at, turns_left, CameTo, host_limit}
 use Rattle.wx_host_slot.specs.Turns.{HostTurn, SaysOrEnds}
 use Rattle.wx_host_slot.specs.declared.slot.Served.{Served}
 use Rattle.wx_host_slot.specs.declared.slot.Served.TheVariants as served
 use Rattle.wx_run.specs.declared.rounds.Rounded.TheVariants.{Moved, Idle, Spent}
-use Rattle.wx_run.specs.Hosts.{host_numbered, HaveEnded, IsFirstUnended, HostTurns, spent_host}
+use Rattle.wx_run.specs.Hosts.{host_numbered, HaveEnded, IsFirstUnended, HostTurns, is_host_spent, spent_host}
 use Rattle.wx_run.specs.Slots.{HostsStand, AllWereStarted, first_spent_slot, first_unended_slot, all_turns_left, is_moved}
-use Rattle.wx_run.specs.Serving.{HostsServed, FirstHeard}
+use Rattle.wx_run.specs.Serving.{SpendsHost, HostsServed, FirstHeard}
 use Rattle.wx_run.proofs.ListLemmas.{set_same, element_at}
-use Rattle.wx_run.proofs.HostEntries.{Adds, turn_adds, says_adds, adds_hosts, host_turns_stay, hosts_stay}
-use Rattle.wx_run.proofs.SlotLemmas.{ended_so, stand_at, hosts_stand_set, spent_is_first, spent_split}
+use Rattle.wx_run.proofs.HostEntries.{Adds, turn_adds, called_so, turn_is_one, says_adds, says_one, adds_hosts, host_turns_stay, hosts_stay}
+use Rattle.wx_run.proofs.SlotLemmas.{ended_so, spent_so, stand_at, hosts_stand_set, spent_is_first, spent_split, unspent_behind}
 
 -- ---- lists of slots
 
@@ -64,14 +65,34 @@ fewer_left (r ∷ slots) zero p q is less =
     omega (arith, so, less)
 fewer_left (r ∷ slots) (suc i) p q is less = omega (arith, fewer_left slots i p q is less)
 
-all_started : (slots : List SlotState) → ((j : ℕ) (p : SlotState) → slice_get slots j ≡ Some p → WasStarted p) → AllWereStarted slots
-all_started [] each = tt
-all_started (p ∷ slots) each = (each 0 p refl, all_started slots (λ j r is. each (suc j) r is))
+-- one of the first slots was started
+started_at : (slots : List SlotState) (known i : ℕ) (p : SlotState) → AllWereStarted (take known slots) → i < known → slice_get slots i ≡ Some p → WasStarted p
+started_at [] known i p all below is = absurd cc
+started_at (r ∷ slots) zero i p all below is = absurd (omega (arith, below))
+started_at (r ∷ slots) (suc known) zero p all below is = let same : r ≡ p = cc in subst WasStarted same all.0
+started_at (r ∷ slots) (suc known) (suc i) p all below is = started_at slots known i p all.1 (omega (arith, below)) is
 
-pub started_at : (slots : List SlotState) (i : ℕ) (p : SlotState) → AllWereStarted slots → slice_get slots i ≡ Some p → WasStarted p
-started_at [] i p all is = absurd cc
-started_at (r ∷ slots) zero p all is = let same : r ≡ p = cc in subst WasStarted same all.0
-started_at (r ∷ slots) (suc i) p all is = started_at slots i p all.1 is
+take_started : (slots : List SlotState) → AllWereStarted slots → AllWereStarted (take (length slots) slots)
+take_started slots all = subst AllWereStarted (sym (take-length slots)) all
+
+-- one more slot was started
+started_more : (slots : List SlotState) (i : ℕ) (q : SlotState) → WasStarted q → AllWereStarted (take i slots) → AllWereStarted (take (suc i) (set slots i q))
+started_more [] i q started all = tt
+started_more (r ∷ slots) zero q started all = (started, tt)
+started_more (r ∷ slots) (suc i) q started all = (all.0, started_more slots i q started all.1)
+
+started_set : (slots : List SlotState) (i : ℕ) (q : SlotState) → WasStarted q → AllWereStarted slots → AllWereStarted (set slots i q)
+started_set [] i q started all = tt
+started_set (r ∷ slots) zero q started all = (started, all.1)
+started_set (r ∷ slots) (suc i) q started all = (all.0, started_set slots i q started all.1)
+
+-- slots behind the one that is set stay
+later_stay : (slots : List SlotState) (i j : ℕ) (q : SlotState) → i < j → slice_get (set slots i q) j ≡ slice_get slots j
+later_stay [] i j q behind = refl
+later_stay (r ∷ slots) zero zero q behind = absurd (omega (arith, behind))
+later_stay (r ∷ slots) zero (suc j) q behind = refl
+later_stay (r ∷ slots) (suc i) zero q behind = absurd (omega (arith, behind))
+later_stay (r ∷ slots) (suc i) (suc j) q behind = later_stay slots i j q (omega (arith, behind))
 
 -- ---- one host's turn
 
@@ -97,25 +118,46 @@ spent_behind_turn writing world i slots a b p q unspent turn so all is =
     spent_is_first writing world b (set slots i q) (stand_behind writing world i slots a b p q unspent turn so) (omega (arith, kept, size, all))
     ∙ spent_set slots 0 i i q (slice_get_within slots i p turn.at) (omega arith) unspent is
 
+-- ---- a turn by which a host is spent
+
+-- a host that ended is not spent
+ended_unspent : (writing : Option Writing) (world : WorldLists) (h : HostNo) (b : List Entry) (q : SlotState) → has_ended b h ≡ true → Stands writing world b h q → is_spent_at q ≡ false
+ended_unspent writing world h b q over stands = and_right (nat_le host_limit q.made) (not q.ended) (ap not (ended_so writing world b h q stands ∙ over))
+
+-- nor is one that made no entry and was not spent
+rested_unspent : (writing told : Option Writing) (world : WorldLists) (h : HostNo) (a b : List Entry) (p q : SlotState) → b ≡ a → Stands writing world a h p → is_spent_at p ≡ false → Stands told world b h q → is_spent_at q ≡ false
+rested_unspent writing told world h a b p q same before unspent after =
+    sym (spent_so told world b h q after) ∙ ap (λ j. is_host_spent j h) same ∙ spent_so writing world a h p before ∙ unspent
+
+-- so a turn by which a host is spent is one entry
+spends_by_one : (called : Type 0) (writing told : Option Writing) (world : WorldLists) (h : HostNo) (a b : List Entry) (p q : SlotState) → Stands writing world a h p → is_spent_at p ≡ false → Stands told world b h q → is_spent_at q ≡ true
+    → HostTurn called h a b → (last : Entry) × (b ≡ last ∷ a)
+spends_by_one called writing told world h a b p q before unspent after spent turn = elim (turn_is_one called h a b turn) [
+  | inl one ↦ one
+  | inr (inl over) ↦ absurd (true≢false (sym spent ∙ ended_unspent told world h b q over after))
+  | inr (inr same) ↦ absurd (true≢false (sym spent ∙ rested_unspent writing told world h a b p q same before unspent after))
+]
+
 -- ---- the turns of the first hosts
 
--- In their turns the first i hosts did nothing, as there was nothing to take; and their programs were started.
+-- In their turns the first i hosts did nothing, as there was nothing to take.
 pub record RestedBelow (i : ℕ) (old slots : List SlotState) (before after : List Entry) : Type 0 where
   pub same : after ≡ before
   pub same_slots : slots ≡ old
   pub none_ready : (h : HostNo) → h.0 < i → is_host_ready before h ≡ false
-  pub started : (j : ℕ) (p : SlotState) → j < i → slice_get old j ≡ Some p → WasStarted p
 
 -- fewer turns are left, where one did something
 abbrev pub RestedUnlessMoved : ℕ → List SlotState → List SlotState → List Entry → List Entry → Bool → Type 0
 RestedUnlessMoved i old slots before after true = all_turns_left slots < all_turns_left old
 RestedUnlessMoved i old slots before after false = RestedBelow i old slots before after
 
--- the first i hosts made their turns, and none is spent
+-- the first i hosts made their turns and were started, and none is spent; the slots behind theirs are the old ones
 pub record ServedSoFar (world : WorldLists) (i : ℕ) (old slots : List SlotState) (before after : List Entry) (moved : Bool) : Type 0 where
   pub same_size : length slots ≡ length old
   pub stand : (writing : Option Writing) → HostsStand writing world before old → HostsStand writing world after slots
-  pub turns : HostTurns i before after
+  pub started : AllWereStarted (take i slots)
+  pub later : (j : ℕ) → i ≤ j → slice_get slots j ≡ slice_get old j
+  pub turns : (known : ℕ) → AllWereStarted (take known old) → HostTurns known i before after
   pub unspent : first_spent_slot 0 slots ≡ None
   pub rest : RestedUnlessMoved i old slots before after moved
 
@@ -123,9 +165,11 @@ pub serving_begins : (world : WorldLists) (old : List SlotState) (a : List Entry
 serving_begins world old a unspent = record {
   same_size = refl;
   stand = λ writing so. so;
-  turns = refl;
+  started = tt;
+  later = λ j behind. refl;
+  turns = λ known first. refl;
   unspent = unspent;
-  rest = record { same = refl; same_slots = refl; none_ready = λ h below. absurd (omega arith); started = λ j p below is. absurd (omega arith) };
+  rest = record { same = refl; same_slots = refl; none_ready = λ h below. absurd (omega (arith, below)) };
 }
 
 -- a slot at a place, as its host's turn asks for it
@@ -143,23 +187,27 @@ slot_at writing world i slots past p so unspent below read =
 -- What the turn of the next host was and came to.
 pub record IsNextTurn (world : WorldLists) (i : ℕ) (slots : List SlotState) (before after : List Entry) (p q : SlotState) (came : Served) : Type 0 where
   pub at : slice_get slots i ≡ Some p
-  pub turn : HostTurn (host_numbered i) before after
+  pub turn : HostTurn (¬ WasStarted p) (host_numbered i) before after
   pub stands : Stands p.starter.writing world after (host_numbered i) q
   pub started : WasStarted q
   pub came_to : CameTo (host_numbered i) before after p q came
 
 pub is_turn : (world : WorldLists) (i : ℕ) (slots : List SlotState) (a b : List Entry) (p q : SlotState) (came : Served) → IsNextTurn world i slots a b p q came → IsTurnOf world i slots a b p q
-is_turn world i slots a b p q came next = record { at = next.at; adds = turn_adds (host_numbered i) a b next.turn; stands = next.stands }
+is_turn world i slots a b p q came next = record { at = next.at; adds = turn_adds (¬ WasStarted p) (host_numbered i) a b next.turn; stands = next.stands }
 
-started_below : (i : ℕ) (old : List SlotState) (p : SlotState) → slice_get old i ≡ Some p → WasStarted p → ((j : ℕ) (r : SlotState) → j < i → slice_get old j ≡ Some r → WasStarted r)
-    → (j : ℕ) (r : SlotState) → j < suc i → slice_get old j ≡ Some r → WasStarted r
-started_below i old p at started below j r less is = elim (cases_lt j i) [
-  | inl before ↦ below j r before is
-  | inr behind ↦
-      let here : j ≡ i = omega (arith, less, behind) in
-      let same : p ≡ r = (let both : Some p ≡ Some r = sym at ∙ ap (slice_get old) (sym here) ∙ is in cc) in
-      subst WasStarted same started
+-- a host that was not started is none of the known
+not_known : (known i : ℕ) (old : List SlotState) (p : SlotState) → AllWereStarted (take known old) → slice_get old i ≡ Some p → ¬ WasStarted p → known ≤ i
+not_known known i old p first at waits = elim (cases_lt i known) [
+  | inl before ↦ absurd (waits (started_at old known i p first before at))
+  | inr behind ↦ omega (arith, behind)
 ]
+
+-- so the next host's turn is one in which those alone can fail to start that are not known
+next_turn : (world : WorldLists) (i : ℕ) (old slots : List SlotState) (a b c : List Entry) (p q : SlotState) (moved : Bool) (came : Served) → ServedSoFar world i old slots a b moved → IsNextTurn world i slots b c p q came
+    → (known : ℕ) → AllWereStarted (take known old) → HostTurn (known ≤ i) (host_numbered i) b c
+next_turn world i old slots a b c p q moved came so next known first =
+    let at : slice_get old i ≡ Some p = sym (so.later i (omega arith)) ∙ next.at in
+    called_so (¬ WasStarted p) (known ≤ i) (host_numbered i) b c (not_known known i old p first at) next.turn
 
 none_ready_below : (i : ℕ) (a : List Entry) → ((h : HostNo) → h.0 < i → is_host_ready a h ≡ false) → is_host_ready a (host_numbered i) ≡ false → (h : HostNo) → h.0 < suc i → is_host_ready a h ≡ false
 none_ready_below i a below last h less = elim (cases_lt h.0 i) [
@@ -170,12 +218,10 @@ none_ready_below i a below last h less = elim (cases_lt h.0 i) [
 rests_on : (world : WorldLists) (i : ℕ) (old slots : List SlotState) (a b c : List Entry) (p q : SlotState) → RestedBelow i old slots a b → IsNextTurn world i slots b c p q served.Rested → RestedBelow (suc i) old (set slots i q) a c
 rests_on world i old slots a b c p q rest next =
     let (same, not_ready, unchanged) = next.came_to in
-    let at : slice_get old i ≡ Some p = subst (λ s. slice_get s i ≡ Some p) rest.same_slots next.at in
     record {
       same = same ∙ rest.same;
       same_slots = ap (set slots i) unchanged ∙ set_same slots i p next.at ∙ rest.same_slots;
       none_ready = none_ready_below i a rest.none_ready (ap (λ j. is_host_ready j (host_numbered i)) (sym rest.same) ∙ not_ready);
-      started = started_below i old p at (subst WasStarted unchanged next.started) rest.started;
     }
 
 rest_behind : (world : WorldLists) (i : ℕ) (old slots : List SlotState) (a b c : List Entry) (p q : SlotState) (moved : Bool) (came : Served) → RestedUnlessMoved i old slots a b moved → IsNextTurn world i slots b c p q came
@@ -197,7 +243,9 @@ turn_served_next : (world : WorldLists) (i : ℕ) (old slots : List SlotState) (
 turn_served_next world i old slots a b c p q moved came so next unspent = record {
   same_size = length-set slots i q ∙ so.same_size;
   stand = λ writing first. stand_behind writing world i slots b c p q so.unspent (is_turn world i slots b c p q came next) (so.stand writing first);
-  turns = (b, so.turns, next.turn);
+  started = started_more slots i q next.started so.started;
+  later = λ j behind. later_stay slots i j q (omega (arith, behind)) ∙ so.later j (omega (arith, behind));
+  turns = λ known first. (b, so.turns known first, next_turn world i old slots a b c p q moved came so next known first);
   unspent = unspent_set slots 0 i q so.unspent unspent;
   rest = rest_behind world i old slots a b c p q moved came so.rest next;
 }
@@ -211,26 +259,39 @@ turn_served world i old slots a b c p q moved served came so next is unspent =
 
 -- one more host made its turn, and is spent
 pub turn_spends : (writing : Option Writing) (world : WorldLists) (i : ℕ) (old slots : List SlotState) (a b c : List Entry) (p q : SlotState) (moved : Bool) (came : Served) → HostsStand writing world a old → length old ≡ length (hosts a)
-    → ServedSoFar world i old slots a b moved → IsNextTurn world i slots b c p q came → is_spent_at q ≡ true → HostsServed a c old (set slots i q) (Spent (Host (host_numbered i)))
-turn_spends writing world i old slots a b c p q moved came first all so next is =
-    let kept = ap length (hosts_stay a b (host_turns_stay i a b so.turns)) in
-    let within = slice_get_within slots i p next.at in (
-      suc i,
-      omega (arith, within, all, so.same_size),
-      (b, so.turns, next.turn),
-      spent_behind_turn writing world i slots b c p q so.unspent (is_turn world i slots b c p q came next) (so.stand writing first) (omega (arith, kept, all, so.same_size)) is,
-    )
+    → ServedSoFar world i old slots a b moved → IsNextTurn world i slots b c p q came → is_spent_at q ≡ true
+    → (known : ℕ) → AllWereStarted (take known old) → HostsServed known a c old (set slots i q) (Spent (Host (host_numbered i)))
+turn_spends writing world i old slots a b c p q moved came first all so next is known known_first =
+    let kept = ap length (hosts_stay a b (host_turns_stay known i a b (so.turns known known_first))) in
+    let within = slice_get_within slots i p next.at in
+    let stand = so.stand writing first in
+    let before = stand_at writing world b slots 0 i i p stand.stand next.at (omega arith) in
+    let one = spends_by_one (¬ WasStarted p) writing p.starter.writing world (host_numbered i) b c p q before (unspent_slot slots 0 i p so.unspent next.at) next.stands is next.turn in
+    let spends : SpendsHost (host_numbered i) b c = record {
+      last = one.0;
+      made = one.1;
+      unspent = unspent_behind writing world b slots stand so.unspent;
+      spent = spent_behind_turn writing world i slots b c p q so.unspent (is_turn world i slots b c p q came next) stand (omega (arith, kept, all, so.same_size)) is;
+    } in
+    (i, b, omega (arith, within, all, so.same_size), so.turns known known_first, next_turn world i old slots a b c p q moved came so next known known_first, spends)
 
 -- ---- all hosts
 
-pub all_moved : (world : WorldLists) (i : ℕ) (old slots : List SlotState) (a b : List Entry) → i ≡ length (hosts a) → ServedSoFar world i old slots a b true → HostsServed a b old slots Moved
-all_moved world i old slots a b all so = (subst (λ n. HostTurns n a b) all so.turns, so.unspent, so.rest)
+all_started : (world : WorldLists) (i : ℕ) (old slots : List SlotState) (a b : List Entry) (moved : Bool) → i ≡ length (hosts a) → length old ≡ length (hosts a) → ServedSoFar world i old slots a b moved → AllWereStarted slots
+all_started world i old slots a b moved all size so =
+    let every : i ≡ length slots = all ∙ sym size ∙ sym so.same_size in
+    subst AllWereStarted (ap (λ n. take n slots) every ∙ take-length slots) so.started
 
-pub all_rested : (world : WorldLists) (i : ℕ) (old slots : List SlotState) (a b : List Entry) → i ≡ length (hosts a) → length old ≡ length (hosts a) → ServedSoFar world i old slots a b false → HostsServed a b old slots Idle
-all_rested world i old slots a b all size so =
+pub all_moved : (world : WorldLists) (i : ℕ) (old slots : List SlotState) (a b : List Entry) → i ≡ length (hosts a) → length old ≡ length (hosts a) → ServedSoFar world i old slots a b true
+    → (known : ℕ) → AllWereStarted (take known old) → HostsServed known a b old slots Moved
+all_moved world i old slots a b all size so known first =
+    (subst (λ n. HostTurns known n a b) all (so.turns known first), so.unspent, all_started world i old slots a b true all size so, so.rest)
+
+pub all_rested : (world : WorldLists) (i : ℕ) (old slots : List SlotState) (a b : List Entry) → i ≡ length (hosts a) → length old ≡ length (hosts a) → ServedSoFar world i old slots a b false
+    → (known : ℕ) → HostsServed known a b old slots Idle
+all_rested world i old slots a b all size so known =
     let rest = so.rest in
-    let started = all_started old (λ j p is. let within = slice_get_within old j p is in rest.started j p (omega (arith, within, all, size)) is) in
-    (rest.same, λ h below. rest.none_ready h (omega (arith, all, below)), subst AllWereStarted (sym rest.same_slots) started, so.unspent, rest.same_slots)
+    (rest.same, λ h below. rest.none_ready h (omega (arith, all, below)), all_started world i old slots a b false all size so, so.unspent, rest.same_slots)
 
 -- ---- the first host that has not ended
 
@@ -295,6 +356,7 @@ pub record IsHeardTurn (world : WorldLists) (i : ℕ) (slots : List SlotState) (
   pub first : IsFirstUnended before (host_numbered i)
   pub turn : SaysOrEnds (host_numbered i) before after
   pub stands : Stands p.starter.writing world after (host_numbered i) q
+  pub started : WasStarted q
   pub less : turns_left q < turns_left p
 
 -- the slot of the first host that has not ended, as its turn asks for it
@@ -313,16 +375,25 @@ first_slot writing world i slots past p so all unspent started found read =
       slot = slot;
       first = first;
       unended = ended_so p.starter.writing world past (host_numbered i) p slot.stands ∙ first.unended;
-      started = started_at slots i p started slot.at;
+      started = started_at slots (length slots) i p (take_started slots started) (slice_get_within slots i p slot.at) slot.at;
     }
 
 pub heard_turn : (world : WorldLists) (i : ℕ) (slots : List SlotState) (a b : List Entry) (p q : SlotState) → IsHeardTurn world i slots a b p q → IsTurnOf world i slots a b p q
 heard_turn world i slots a b p q heard = record { at = heard.at; adds = says_adds (host_numbered i) a b heard.first.unended heard.turn; stands = heard.stands }
 
-pub heard_moved : (world : WorldLists) (i : ℕ) (slots : List SlotState) (a b : List Entry) (p q : SlotState) → first_spent_slot 0 slots ≡ None → IsHeardTurn world i slots a b p q → is_spent_at q ≡ false → FirstHeard a b slots (set slots i q) Moved
-heard_moved world i slots a b p q unspent heard is = ((host_numbered i, heard.first, heard.turn), unspent_set slots 0 i q unspent is, fewer_left slots i p q heard.at heard.less)
+pub heard_moved : (world : WorldLists) (i : ℕ) (slots : List SlotState) (a b : List Entry) (p q : SlotState) → first_spent_slot 0 slots ≡ None → AllWereStarted slots → IsHeardTurn world i slots a b p q → is_spent_at q ≡ false
+    → FirstHeard a b slots (set slots i q) Moved
+heard_moved world i slots a b p q unspent started heard is =
+    ((host_numbered i, heard.first, heard.turn), unspent_set slots 0 i q unspent is, started_set slots i q heard.started started, fewer_left slots i p q heard.at heard.less)
 
 pub heard_spent : (writing : Option Writing) (world : WorldLists) (i : ℕ) (slots : List SlotState) (a b : List Entry) (p q : SlotState) → HostsStand writing world a slots → length slots ≡ length (hosts a) → first_spent_slot 0 slots ≡ None
     → IsHeardTurn world i slots a b p q → is_spent_at q ≡ true → FirstHeard a b slots (set slots i q) (Spent (Host (host_numbered i)))
 heard_spent writing world i slots a b p q so all unspent heard is =
-    ((host_numbered i, heard.first, heard.turn), spent_behind_turn writing world i slots a b p q unspent (heard_turn world i slots a b p q heard) so all is)
+    let one = says_one (host_numbered i) a b heard.turn in
+    let spends : SpendsHost (host_numbered i) a b = record {
+      last = one.0;
+      made = one.1;
+      unspent = unspent_behind writing world a slots so unspent;
+      spent = spent_behind_turn writing world i slots a b p q unspent (heard_turn world i slots a b p q heard) so all is;
+    } in
+    ((host_numbered i, heard.first, heard.turn), spends)

@@ -33,10 +33,11 @@ pub record IsFirstUnended (past : List Entry) (h : HostNo) : Type 0 where
 abbrev pub NoneReady : List Entry → Type 0
 NoneReady past = (h : HostNo) → h.0 < length (hosts past) → is_host_ready past h ≡ false
 
--- the turns of so many hosts, numbered from 0, in rising number
-abbrev pub HostTurns : ℕ → List Entry → List Entry → Type 0
-HostTurns zero before after = after ≡ before
-HostTurns (suc n) before after = (between : List Entry) × HostTurns n before between × HostTurn (host_numbered n) between after
+-- the turns of so many hosts, numbered from 0, in rising number; those from number `known` on were called in this round, and
+-- they alone can fail to start
+abbrev pub HostTurns : ℕ → ℕ → List Entry → List Entry → Type 0
+HostTurns known zero before after = after ≡ before
+HostTurns known (suc n) before after = (between : List Entry) × HostTurns known n before between × HostTurn (known ≤ n) (host_numbered n) between after
 
 -- host h has made as many entries as it may, and has not ended
 abbrev pub is_host_spent : List Entry → HostNo → Bool
@@ -51,7 +52,7 @@ spent_host_from (suc count) n past = if is_host_spent past (host_numbered n) the
 abbrev pub spent_host : List Entry → Option HostNo
 spent_host past = spent_host_from (length (hosts past)) 0 past
 
--- no host made more entries than it may: the last turn of each pump may go beyond the limit
+-- no host made more entries than it may: with 65,536 and no end it is spent; the bound leaves room for two more
 abbrev pub AreHostsWithin : List Entry → Type 0
 AreHostsWithin past = (h : HostNo) → entries_of h past ≤ host_limit + 2
 

@@ -13,7 +13,7 @@ use Rattle.wx_script.specs.declared.script.Command.{Command}
 use Rattle.wx_script.specs.declared.scene.SceneEndpoint.{SceneEndpoint}
 use Rattle.wx_script.specs.Ends.{numbered}
 use Rattle.wx_endpoint.specs.Turn.{CursorState}
-use Rattle.wx_run.specs.Cursors.{cursor_at_start, cursors_from}
+use Rattle.wx_run.specs.Cursors.{cursor_at_start, cursors_from, first_spent_in}
 use Rattle.wx_run.specs.Opening.{entered, first_listen, opening_from}
 use Rattle.wx_run.specs.Round.{Follows, IsWithinLimit}
 use Rattle.wx_run.specs.Step.{IsStep}
@@ -38,7 +38,7 @@ pub record AreIn (n : ℕ) (past : List Entry) : Type 0 where
   pub counted : contexts past ≡ n
   pub below : AreBelow n past
 
--- the first i endpoints have made their first entries, and stand behind them
+-- the first i endpoints have made their first entries, and stand behind them; none is spent
 pub record OpenedSoFar (world : WorldLists) (endpoints : List SceneEndpoint) (i : ℕ) (cursors : List CursorState) (past : List Entry) : Type 0 where
   pub legal : EachAfter (FollowsMachine world) past
   pub begins : past ≡ reverse (opening_from 0 (take i endpoints))
@@ -46,6 +46,7 @@ pub record OpenedSoFar (world : WorldLists) (endpoints : List SceneEndpoint) (i 
   pub all_in : AreIn i past
   pub follows : Follows (scripts_at endpoints) past
   pub within_limit : IsWithinLimit past
+  pub unspent : first_spent_in 0 cursors ≡ None
   pub no_hosts : hosts past ≡ []
 
 -- behind its `enter` an endpoint has made its first `listen`, if there is one, and its cursor stands behind it

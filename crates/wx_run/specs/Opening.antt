@@ -1,4 +1,5 @@
--- The opening of a run: each endpoint of the scene comes in, in order, and listens where its script begins with that.
+-- The opening of a run: each endpoint of the scene comes in, in order, and makes its `listen` where its first command is a
+-- `listen` that is not repeated.
 use Rattle.std.specs.Prelude.{ℕ, ◌+◌, List, [], ◌∷◌, ◌++◌, Option, Some, None, option_to_list}
 use Rattle.std.specs.Option.{option_map}
 use Rattle.wx_id.specs.declared.numbers.ContextNo.{ContextNo}
@@ -22,17 +23,17 @@ entered c x = record { who = ByContext c; call = call.Enter x; answer = answer.E
 abbrev pub listened : ContextNo → Listens → Entry
 listened c l = record { who = ByContext c; call = call.Listen l; answer = answer.Done }
 
--- what a command listens to, where it is a plain `listen`
+-- what a command listens to, where it is a `listen` that is not repeated
 abbrev pub plain_listen : Command → Option Listens
 plain_listen (Plain (act.Listen l)) = Some l
 plain_listen _ = None
 
--- what the first command listens to, where it is a plain `listen`
+-- what the first command listens to, where it is a `listen` that is not repeated
 abbrev pub first_listen : List Command → Option Listens
 first_listen [] = None
 first_listen (c ∷ commands) = plain_listen c
 
--- an endpoint's `enter`, and its `listen` where that is its first command
+-- an endpoint's `enter`, and its `listen` where its first command is a `listen` that is not repeated
 abbrev pub first_entries : ContextNo → SceneEndpoint → List Entry
 first_entries c endpoint = entered c endpoint.context ∷ option_to_list (option_map (listened c) (first_listen endpoint.script))
 

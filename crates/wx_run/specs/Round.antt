@@ -1,5 +1,5 @@
 -- The endpoints' part of a round. Every list of entries has the newest first.
-use Rattle.std.specs.Prelude.{◌≡◌, ℕ, ◌+◌, ◌<◌, ◌≤◌, Bool, true, false, length, take, List, slice_get, Some, None}
+use Rattle.std.specs.Prelude.{◌≡◌, ℕ, ◌+◌, ◌<◌, ◌≤◌, Bool, true, false, length, take, List, ◌∷◌, slice_get, Some, None}
 use Rattle.wx_id.specs.declared.numbers.ContextNo.{ContextNo}
 use Rattle.wx_external.specs.World.{WorldLists}
 use Rattle.wx_machine.specs.declared.entries.Entry.{Entry}
@@ -10,7 +10,7 @@ use Rattle.wx_machine.specs.Hosts.{hosts}
 use Rattle.wx_script.specs.declared.script.Command.{Command}
 use Rattle.wx_script.specs.Places.{next_of}
 use Rattle.wx_script.specs.Carries.{FollowsScript}
-use Rattle.wx_script.specs.Ends.{numbered, is_idle, AreIdle, entries_by, entry_limit}
+use Rattle.wx_script.specs.Ends.{numbered, is_idle, AreIdle, spent_of, entries_by, entry_limit}
 use Rattle.wx_script.specs.declared.scene.SpentWho.TheVariants.{Endpoint, Host}
 use Rattle.wx_endpoint.specs.Turn.{CursorState}
 use Rattle.wx_run.specs.declared.rounds.Rounded.{Rounded}
@@ -51,12 +51,22 @@ pub record RoundSoFar (world : WorldLists) (scripts : List (List Command)) (i : 
   pub turns : Turns (take i scripts) 0 before after
   pub idle : IdleUnlessMoved scripts i before after moved
 
--- The endpoints' part of a round: every endpoint has made its turn and none is spent; or none can do anything; or the last one
--- that made its turn is spent.
+-- Behind the turns of the first n endpoints the next made one entry, by which it is spent; before it no endpoint is.
+pub record SpendsEndpoint (scripts : List (List Command)) (n : ℕ) (before after : List Entry) : Type 0 where
+  pub past : List Entry
+  pub earlier : Turns (take n scripts) 0 before past
+  pub last : Entry
+  pub made : after ≡ last ∷ past
+  pub turns : Turns (take (n + 1) scripts) 0 before after
+  pub unspent : spent_of scripts past ≡ None
+  pub spent : spent_of scripts after ≡ Some n
+
+-- The endpoints' part of a round: every endpoint has made its turn and none is spent; or none can do anything; or the turns end
+-- with the entry by which an endpoint is spent.
 abbrev pub IsRound : List (List Command) → List CursorState → List Entry → List Entry → Rounded → Type 0
 IsRound scripts cursors before after Moved = Turns scripts 0 before after × (first_spent_in 0 cursors ≡ None)
 IsRound scripts cursors before after Idle = Turns scripts 0 before after × (first_spent_in 0 cursors ≡ None) × AreIdle scripts before × (after ≡ before)
-IsRound scripts cursors before after (Spent (Endpoint n)) = Turns (take (n + 1) scripts) 0 before after × (first_spent_in 0 cursors ≡ Some n)
+IsRound scripts cursors before after (Spent (Endpoint n)) = SpendsEndpoint scripts n before after
 IsRound scripts cursors before after (Spent (Host h)) = ⊥
 
 -- where an entry was made, fewer may still be made

@@ -31,13 +31,14 @@ abbrev pub Turns : List (List Command) → ℕ → List Entry → List Entry →
 Turns [] n before after = after ≡ before
 Turns (script ∷ scripts) n before after = (between : List Entry) × Turn script (record { 0 = n }) before between × Turns scripts (n + 1) between after
 
--- A round: the turns of all endpoints and then of all hosts, in which someone made an entry; or, where nobody could make one,
--- the first host that has not ended said a text, or ended.
+-- A round: the turns of all endpoints and then of all hosts, in which someone made an entry; of the hosts those alone can fail
+-- to start that the endpoints called in this round. Or, where nobody could make an entry, the first host that has not ended
+-- said a text, or ended.
 pub data Round (scripts : List (List Command)) (before after : List Entry) : Type 0 where
-  of_all : (between : List Entry) → Turns scripts 0 before between → HostTurns (length (hosts between)) between after → (after ≡ before → ⊥) → Round scripts before after
+  of_all : (between : List Entry) → Turns scripts 0 before between → HostTurns (length (hosts before)) (length (hosts between)) between after → (after ≡ before → ⊥) → Round scripts before after
   of_first_host : AreIdle scripts before → NoneReady before → (h : HostNo) → IsFirstUnended before h → SaysOrEnds h before after → Round scripts before after
 
--- No endpoint can do anything, and every host has ended.
+-- No endpoint can do anything, every host has ended, and no entry was made.
 pub record IsOver (scripts : List (List Command)) (before after : List Entry) : Type 0 where
   pub idle : AreIdle scripts after
   pub ended : HaveEnded after
@@ -47,17 +48,23 @@ pub record IsOver (scripts : List (List Command)) (before after : List Entry) : 
 abbrev pub IsSpent : List (List Command) → List Entry → Type 0
 IsSpent scripts past = ((n : ℕ) × (spent_of scripts past ≡ Some n)) ⊎ ((h : HostNo) × (spent_host past ≡ Some h))
 
--- the first turns of a round: those of the first endpoints, or of all of them and of the first hosts
+-- the first turns of a round: those of the first endpoints; or those of all endpoints and of the first hosts; or a whole round
 pub data FirstTurns (scripts : List (List Command)) (before after : List Entry) : Type 0 where
   of_endpoints : (count : ℕ) → Turns (take count scripts) 0 before after → FirstTurns scripts before after
-  of_hosts : (between : List Entry) (count : ℕ) → Turns scripts 0 before between → count ≤ length (hosts between) → HostTurns count between after → FirstTurns scripts before after
+  of_hosts : (between : List Entry) (count : ℕ) → Turns scripts 0 before between → count ≤ length (hosts between) → HostTurns (length (hosts before)) count between after → FirstTurns scripts before after
+  whole : Round scripts before after → FirstTurns scripts before after
 
--- Someone is spent, and the first turns of a round alone were made.
+-- The first turns of a round were made up to the very entry by which someone is spent: behind it stands no other, and before it
+-- nobody is spent.
 pub record IsCutShort (scripts : List (List Command)) (before after : List Entry) : Type 0 where
-  pub spent : IsSpent scripts after
   pub turns : FirstTurns scripts before after
+  pub last : Entry
+  pub past : List Entry
+  pub made : after ≡ last ∷ past
+  pub unspent : ¬ IsSpent scripts past
+  pub spent : IsSpent scripts after
 
--- so many rounds, each begun while nobody is spent; then nobody can do anything, or someone is spent and the last round is cut short
+-- so many whole rounds, each of which leaves nobody spent; then nobody can do anything, or the last round is cut short
 abbrev pub Rounds : ℕ → List (List Command) → List Entry → List Entry → Type 0
 Rounds zero scripts before after = IsOver scripts before after ⊎ IsCutShort scripts before after
-Rounds (suc n) scripts before after = (between : List Entry) × ¬ IsSpent scripts before × Round scripts before between × Rounds n scripts between after
+Rounds (suc n) scripts before after = (between : List Entry) × Round scripts before between × ¬ IsSpent scripts between × Rounds n scripts between after

@@ -1,12 +1,11 @@
 -- How far the rounds of a run have come. Every list of entries has the newest first.
-use Rattle.std.specs.Prelude.{◌≡◌, ℕ, ◌+◌, ◌-◌, ◌*◌, ◌<◌, ◌≤◌, ◌⊎◌, length, List, Option, Some, None}
+use Rattle.std.specs.Prelude.{◌≡◌, ℕ, ◌+◌, ◌-◌, ◌*◌, ◌<◌, ◌≤◌, ◌⊎◌, length, List, Option, None}
 use Rattle.wx_external.specs.World.{WorldLists}
 use Rattle.wx_machine.specs.declared.entries.Entry.{Entry}
 use Rattle.wx_machine.specs.Hosts.{hosts}
 use Rattle.wx_host_launch.specs.Records.{Writing, StarterState}
 use Rattle.wx_host_slot.specs.Slots.{SlotState, host_limit}
 use Rattle.wx_script.specs.declared.script.Command.{Command}
-use Rattle.wx_script.specs.declared.scene.SpentWho.TheVariants.{Endpoint, Host}
 use Rattle.wx_script.specs.Ends.{AreIdle}
 use Rattle.wx_endpoint.specs.Turn.{CursorState}
 use Rattle.wx_run.specs.declared.outcome.RunEnd.{RunEnd}
@@ -14,48 +13,51 @@ use Rattle.wx_run.specs.declared.outcome.RunEnd.TheVariants as end
 use Rattle.wx_run.specs.declared.rounds.Rounded.{Rounded}
 use Rattle.wx_run.specs.declared.rounds.Rounded.TheVariants.{Moved, Idle, Spent}
 use Rattle.wx_run.specs.Cursors.{first_spent_in, work_in}
-use Rattle.wx_run.specs.Hosts.{NoneReady, HostTurns, spent_host}
+use Rattle.wx_run.specs.Hosts.{NoneReady, HostTurns}
 use Rattle.wx_run.specs.Slots.{HostsStand, AllWereStarted, first_spent_slot, all_turns_left, keeping}
-use Rattle.wx_run.specs.Rounds.{Turns, Round, Rounds, FirstTurns, IsOver}
+use Rattle.wx_run.specs.Rounds.{Turns, Round, Rounds, IsOver, IsCutShort}
 use Rattle.wx_run.specs.Round.{AllStand, Follows, IsWithinLimit}
 use Rattle.wx_run.specs.Run.{HasEnd}
 
--- Between two rounds the endpoints and the hosts stand to the journal, and nobody is spent.
+-- Nobody is spent, and every host has its slot, and its program was started, or could not be: another round may begin.
+pub record MayGoOn (cursors : List CursorState) (slots : List SlotState) (past : List Entry) : Type 0 where
+  pub unspent : first_spent_in 0 cursors ≡ None
+  pub hosts_unspent : first_spent_slot 0 slots ≡ None
+  pub all : length slots ≡ length (hosts past)
+  pub started : AllWereStarted slots
+
+-- Between two rounds the endpoints and the hosts stand to the journal, and another round may begin.
 pub record AreReady (writing : Option Writing) (world : WorldLists) (scripts : List (List Command)) (cursors : List CursorState) (slots : List SlotState) (past : List Entry) : Type 0 where
   pub endpoints : AllStand world scripts cursors past
-  pub unspent : first_spent_in 0 cursors ≡ None
   pub hosts_stand : HostsStand writing world past slots
-  pub hosts_unspent : first_spent_slot 0 slots ≡ None
+  pub go_on : MayGoOn cursors slots past
 
--- all endpoints made their turns, and then all hosts
+-- all endpoints made their turns, and then all hosts, of which those alone can fail to start that were called in this round
 abbrev pub AllTurns : List (List Command) → List Entry → List Entry → Type 0
-AllTurns scripts before after = (between : List Entry) × Turns scripts 0 before between × HostTurns (length (hosts between)) between after
+AllTurns scripts before after = (between : List Entry) × Turns scripts 0 before between × HostTurns (length (hosts before)) (length (hosts between)) between after
 
--- What a whole round comes to: nobody is spent; or nobody can do anything, and every program was started; or an endpoint or a
--- host is spent, behind whose turn no other was made.
+-- What a whole round comes to: all made their turns, and another round may begin; or that, and nobody can do anything; or the
+-- round is cut short behind the entry by which someone is spent, and so the run ends.
 abbrev pub IsWholeRound : List (List Command) → List CursorState → List SlotState → List Entry → List Entry → Rounded → Type 0
-IsWholeRound scripts cursors slots before after Moved = AllTurns scripts before after × (first_spent_in 0 cursors ≡ None) × (first_spent_slot 0 slots ≡ None)
-IsWholeRound scripts cursors slots before after Idle =
-    (after ≡ before) × AreIdle scripts before × NoneReady before × AllWereStarted slots × (length slots ≡ length (hosts after))
-    × (first_spent_in 0 cursors ≡ None) × (first_spent_slot 0 slots ≡ None)
-IsWholeRound scripts cursors slots before after (Spent (Endpoint n)) = FirstTurns scripts before after × (first_spent_in 0 cursors ≡ Some n)
-IsWholeRound scripts cursors slots before after (Spent (Host h)) = FirstTurns scripts before after × (first_spent_in 0 cursors ≡ None) × (spent_host after ≡ Some h)
+IsWholeRound scripts cursors slots before after Moved = AllTurns scripts before after × MayGoOn cursors slots after
+IsWholeRound scripts cursors slots before after Idle = (after ≡ before) × AreIdle scripts before × NoneReady before × MayGoOn cursors slots after
+IsWholeRound scripts cursors slots before after (Spent who) = IsCutShort scripts before after × HasEnd scripts after (end.Spent who)
 
 -- a round; or none, where no entry was made
 abbrev pub RoundOrNone : List (List Command) → List Entry → List Entry → Type 0
 RoundOrNone scripts before after = Round scripts before after ⊎ (after ≡ before)
 
--- What the next round of a run comes to: nobody is spent; or the run is over; or someone is spent, and the last round is cut short.
+-- What the next round of a run comes to: another may begin; or the run is over; or the round is cut short behind the entry by
+-- which someone is spent, and so the run ends.
 abbrev pub IsNextRound : List (List Command) → List CursorState → List SlotState → List Entry → List Entry → Rounded → Type 0
-IsNextRound scripts cursors slots before after Moved = RoundOrNone scripts before after × (first_spent_in 0 cursors ≡ None) × (first_spent_slot 0 slots ≡ None)
+IsNextRound scripts cursors slots before after Moved = RoundOrNone scripts before after × MayGoOn cursors slots after
 IsNextRound scripts cursors slots before after Idle = IsOver scripts before after × (first_spent_in 0 cursors ≡ None)
-IsNextRound scripts cursors slots before after (Spent who) =
-    (between : List Entry) × RoundOrNone scripts before between × FirstTurns scripts between after × HasEnd scripts after (end.Spent who)
+IsNextRound scripts cursors slots before after (Spent who) = IsCutShort scripts before after × HasEnd scripts after (end.Spent who)
 
--- More than as many turns as all may still make: an endpoint's turn may call a host, and each host that has no slot yet may
+-- More than as many turns as all may still make, where every host has its slot: an endpoint's turn may call a host, which may
 -- make all of its turns.
-abbrev pub turns_in : List CursorState → List SlotState → List Entry → ℕ
-turns_in cursors slots past = (host_limit + 5) * work_in cursors + (host_limit + 4) * (length (hosts past) - length slots) + all_turns_left slots
+abbrev pub turns_in : List CursorState → List SlotState → ℕ
+turns_in cursors slots = (host_limit + 5) * work_in cursors + all_turns_left slots
 
 -- where somebody did something, fewer turns are left
 abbrev pub TurnsLessen : ℕ → ℕ → Rounded → Type 0

@@ -1,5 +1,5 @@
 -- How the slots of a run's hosts stand to the journal. Every list of entries has the newest first.
-use Rattle.std.specs.Prelude.{◌≡◌, ℕ, ◌+◌, ◌≤◌, length, List, [], ◌∷◌, Bool, true, false, Option, Some, None, if◌then◌else◌}
+use Rattle.std.specs.Prelude.{◌≡◌, ℕ, ◌+◌, ◌≤◌, length, List, [], ◌∷◌, ◌++◌, Bool, true, false, Option, Some, None, if◌then◌else◌}
 use Rattle.wx_id.specs.declared.numbers.HostNo.{HostNo}
 use Rattle.wx_external.specs.World.{WorldLists}
 use Rattle.wx_machine.specs.declared.entries.Entry.{Entry}
@@ -23,6 +23,7 @@ pub record HostsStand (writing : Option Writing) (world : WorldLists) (past : Li
   pub none_beyond : (h : HostNo) → length slots ≤ h.0 → entries_of h past ≡ 0
   pub within_limit : AreHostsWithin past
 
+-- the program of each slot's host was started, or could not be
 abbrev pub AllWereStarted : List SlotState → Type 0
 AllWereStarted [] = Unit {0}
 AllWereStarted (slot ∷ slots) = WasStarted slot × AllWereStarted slots
@@ -41,6 +42,10 @@ first_unended_slot n (slot ∷ slots) = if slot.ended then first_unended_slot (n
 abbrev pub all_turns_left : List SlotState → ℕ
 all_turns_left [] = 0
 all_turns_left (slot ∷ slots) = turns_left slot + all_turns_left slots
+
+-- slots were added behind the old ones
+abbrev pub AddsBehind : List SlotState → List SlotState → Type 0
+AddsBehind old new = (more : List SlotState) × (new ≡ old ++ more)
 
 -- a starter that keeps so many places more
 abbrev pub keeping : ℕ → StarterState → StarterState

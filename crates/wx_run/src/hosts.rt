@@ -1,11 +1,11 @@
-ghost use Rattle.std.specs.Prelude.{◌≡◌, ◌+◌, ◌-◌, ◌*◌, ◌<◌, ◌≤◌, ◌++◌, length, map, reverse, Option, None, IfOk, OnOk};
+ghost use Rattle.std.specs.Prelude.{◌≡◌, ℕ, ◌+◌, ◌-◌, ◌*◌, ◌<◌, ◌≤◌, ◌++◌, length, take, map, reverse, Option, None, IfOk, OnOk};
 ghost use Rattle.wx_machine.specs.Answers.{IsLegal};
 ghost use Rattle.wx_machine.specs.Hosts.{hosts};
 ghost use Rattle.wx_host_launch.specs.Records.{Writing};
 ghost use Rattle.wx_host_slot.specs.Slots.{closing_record, host_limit, slots_of};
 ghost use Rattle.wx_run.specs.Hosts.{NoneReady};
 ghost use Rattle.wx_run.specs.Serving.{HostsServed, FirstHeard};
-ghost use Rattle.wx_run.specs.Slots.{HostsStand, AllWereStarted, first_spent_slot, first_unended_slot, is_moved, all_turns_left, keeping};
+ghost use Rattle.wx_run.specs.Slots.{HostsStand, AllWereStarted, AddsBehind, first_spent_slot, first_unended_slot, is_moved, all_turns_left, keeping};
 
 use crate::rounds::Rounded;
 use std::alloc::Global;
@@ -15,7 +15,7 @@ use wx_host_slot::{HostSlot, Served};
 use wx_id::{HostNo, NoMemory};
 use wx_script::SpentWho;
 
-/// Gives a slot to each host that has none.
+/// Gives a slot to each host that has none, behind the others.
 pub fn add_slots<P: Starter>(
     broker: &Broker,
     slots: &mut Vec<HostSlot<P>>,
@@ -24,6 +24,7 @@ pub fn add_slots<P: Starter>(
     requires { HostsStand (P.state starter.old).writing broker.now.world (reverse broker.now.entries) (slots_of P.state slots.old.items) }
     ensures stand { OnOk result (HostsStand (P.state starter.old).writing broker.now.world (reverse broker.now.entries) (slots_of P.state slots.new.items)) }
     ensures all { OnOk result (length slots.new.items ≡ length (hosts (reverse broker.now.entries))) }
+    ensures front { OnOk result (AddsBehind (slots_of P.state slots.old.items) (slots_of P.state slots.new.items)) }
     ensures unspent { OnOk result (first_spent_slot 0 (slots_of P.state slots.old.items) ≡ None → first_spent_slot 0 (slots_of P.state slots.new.items) ≡ None) }
     ensures left { OnOk result (all_turns_left (slots_of P.state slots.new.items) ≡ all_turns_left (slots_of P.state slots.old.items) + (host_limit + 4) * (length slots.new.items - length slots.old.items)) }
     ensures kept { OnOk result (P.state starter.new ≡ keeping (length slots.new.items - length slots.old.items) (P.state starter.old)) }
@@ -47,7 +48,7 @@ fn has_moved(served: Served) -> bool
     }
 }
 
-/// The turns of all hosts behind those of the endpoints, in rising number, until one is spent.
+/// The turns of all hosts behind those of the endpoints, in rising number, up to the entry by which one is spent.
 pub fn serve_hosts<P: Starter>(
     alloc: Global,
     broker: &mut Broker,
@@ -59,7 +60,8 @@ pub fn serve_hosts<P: Starter>(
     requires unspent { first_spent_slot 0 (slots_of P.state slots.old.items) ≡ None }
     ensures stand { (writing : Option Writing) → HostsStand writing broker.old.world (reverse broker.old.entries) (slots_of P.state slots.old.items)
         → OnOk result (HostsStand writing broker.old.world (reverse broker.new.entries) (slots_of P.state slots.new.items)) }
-    ensures served { IfOk result (HostsServed (reverse broker.old.entries) (reverse broker.new.entries) (slots_of P.state slots.old.items) (slots_of P.state slots.new.items)) }
+    ensures served { (known : ℕ) → AllWereStarted (take known (slots_of P.state slots.old.items))
+        → IfOk result (HostsServed known (reverse broker.old.entries) (reverse broker.new.entries) (slots_of P.state slots.old.items) (slots_of P.state slots.new.items)) }
     ensures same_size { length slots.new.items ≡ length slots.old.items }
     ensures legal { OnOk result (IsLegal broker.old.world broker.new.entries) }
     ensures same_world { OnOk result (broker.new.world ≡ broker.old.world) }

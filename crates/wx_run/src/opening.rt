@@ -16,7 +16,7 @@ use wx_endpoint::{BrokerDesk, Cursor};
 use wx_id::{ContextNo, NoMemory};
 use wx_script::{Act, Command, Scene, SceneEndpoint};
 
-/// Whether the first command is a plain `listen`.
+/// Whether the first command is a `listen` that is not repeated.
 fn begins_with_listen(commands: &[Command]) -> bool
     ensures { result ≡ is_some (first_listen commands.now) }
 {
@@ -36,7 +36,7 @@ fn enter(broker: &mut Broker, context: &Context) -> Result<ContextNo, NoMemory>
     }
 }
 
-/// Lets an endpoint in, and makes its `listen` where that is its first command.
+/// Lets an endpoint in, and makes its `listen` where its first command is a `listen` that is not repeated.
 fn open_one<'a>(
     alloc: Global,
     endpoint: &'a SceneEndpoint,

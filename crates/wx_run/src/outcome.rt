@@ -4,11 +4,12 @@ use wx_script::SpentWho;
 /// How a run ended.
 #[derive(Clone, Copy, Debug, PartialEq, Eq)]
 pub enum RunEnd {
-    /// Every script has ended.
+    /// Every script and every host has ended.
     Done,
-    /// No endpoint can do anything, and some script has not ended.
+    /// Some script has not ended, no endpoint is spent, each script that has not ended waits with nothing pending, and every
+    /// host has ended.
     Stalled,
-    /// It stopped, as one had made as many entries as it may.
+    /// It stopped behind the entry with which this endpoint or host had made as many as it may, and had not ended.
     Spent(SpentWho),
 }
 

@@ -1,7 +1,7 @@
 ghost use Rattle.std.specs.Prelude.{◌≡◌, IfOk, OnOk, None, reverse, if◌then◌else◌};
 ghost use Rattle.wx_host_slot.specs.Slots.{slots_of};
 ghost use Rattle.wx_run.specs.Cursors.{scripts_in, first_spent_in, all_left};
-ghost use Rattle.wx_run.specs.Slots.{HostsStand, first_spent_slot};
+ghost use Rattle.wx_run.specs.Slots.{HostsStand};
 ghost use Rattle.wx_run.specs.Round.{AllStand, IsRound, RoundLessens};
 ghost use Rattle.wx_run.specs.Running.{AreReady, IsWholeRound, IsNextRound, turns_in, TurnsLessen, KeepsPlaces, AreRounds};
 
@@ -18,27 +18,15 @@ use wx_script::SpentWho;
 /// What a round came to.
 #[derive(Clone, Copy, Debug, PartialEq, Eq)]
 pub enum Rounded {
-    /// Some turn did something, and nobody is spent.
+    /// Some turn made an entry or started a program, and nobody is spent.
     Moved,
     /// Nobody could do anything.
     Idle,
-    /// This endpoint or host is spent, and the round was cut short behind its turn.
+    /// This endpoint or host is spent by the last entry, and behind it the round was cut short.
     Spent(SpentWho),
 }
 
-/// The first endpoint that is spent.
-pub fn first_spent(cursors: &[Cursor<'_>]) -> Option<u64>
-    ensures { result ≡ first_spent_in 0 cursors.now }
-{
-    for (i, cursor) in cursors.iter().enumerate() {
-        if cursor.is_spent() {
-            return Some(i as u64);
-        }
-    }
-    None
-}
-
-/// How a run ends in which no endpoint can do anything.
+/// How a run ends in which nobody can do anything.
 fn end_of(cursors: &[Cursor<'_>]) -> RunEnd
     ensures { result ≡ (if all_left cursors.now then RunEnd.Done else RunEnd.Stalled) }
 {
@@ -50,7 +38,7 @@ fn end_of(cursors: &[Cursor<'_>]) -> RunEnd
     RunEnd::Done
 }
 
-/// The endpoints' part of a round: a turn of each, in rising number, until one is spent.
+/// The endpoints' part of a round: a turn of each, in rising number, up to the entry by which one is spent.
 fn round(cursors: &mut Vec<Cursor<'_>>, desk: &mut BrokerDesk) -> Result<Rounded, NoMemory>
     requires stand { AllStand desk.old.broker.world (scripts_in cursors.old.items) cursors.old.items (reverse desk.old.broker.entries) }
     requires unspent { first_spent_in 0 cursors.old.items ≡ None }
@@ -71,7 +59,8 @@ fn round(cursors: &mut Vec<Cursor<'_>>, desk: &mut BrokerDesk) -> Result<Rounded
     Ok(if moved { Rounded::Moved } else { Rounded::Idle })
 }
 
-/// A whole round: the turns of all endpoints, and then of all hosts, those included that were called in it.
+/// A whole round: the turns of all endpoints, and then of all hosts, those included that were called in it, which alone can
+/// fail to start; or its first turns, up to the entry by which someone is spent.
 fn whole_round<P: Starter>(
     alloc: Global,
     cursors: &mut Vec<Cursor<'_>>,
@@ -83,7 +72,7 @@ fn whole_round<P: Starter>(
     ensures stand { OnOk result (AllStand desk.old.broker.world (scripts_in cursors.old.items) cursors.new.items (reverse desk.new.broker.entries)) }
     ensures hosts_stand { OnOk result (HostsStand (P.state starter.old).writing desk.old.broker.world (reverse desk.new.broker.entries) (slots_of P.state slots.new.items)) }
     ensures round { IfOk result (λ rounded. IsWholeRound (scripts_in cursors.old.items) cursors.new.items (slots_of P.state slots.new.items) (reverse desk.old.broker.entries) (reverse desk.new.broker.entries) rounded) }
-    ensures less { IfOk result (λ rounded. TurnsLessen (turns_in cursors.old.items (slots_of P.state slots.old.items) (reverse desk.old.broker.entries)) (turns_in cursors.new.items (slots_of P.state slots.new.items) (reverse desk.new.broker.entries)) rounded) }
+    ensures less { IfOk result (λ rounded. TurnsLessen (turns_in cursors.old.items (slots_of P.state slots.old.items)) (turns_in cursors.new.items (slots_of P.state slots.new.items)) rounded) }
     ensures kept { OnOk result (KeepsPlaces (slots_of P.state slots.old.items) (slots_of P.state slots.new.items) (P.state starter.old) (P.state starter.new)) }
     ensures same_world { OnOk result (desk.new.broker.world ≡ desk.old.broker.world) }
 {
@@ -98,7 +87,8 @@ fn whole_round<P: Starter>(
     }
 }
 
-/// The next round of a run: a whole round; or, where nobody can do anything, the turn of the first host that has not ended.
+/// The next round of a run: a whole round, or its first turns, up to the entry by which someone is spent; or, where nobody can do
+/// anything, the turn of the first host that has not ended.
 fn next_round<P: Starter>(
     alloc: Global,
     cursors: &mut Vec<Cursor<'_>>,
@@ -110,7 +100,7 @@ fn next_round<P: Starter>(
     ensures stand { OnOk result (AllStand desk.old.broker.world (scripts_in cursors.old.items) cursors.new.items (reverse desk.new.broker.entries)) }
     ensures hosts_stand { OnOk result (HostsStand (P.state starter.old).writing desk.old.broker.world (reverse desk.new.broker.entries) (slots_of P.state slots.new.items)) }
     ensures round { IfOk result (λ rounded. IsNextRound (scripts_in cursors.old.items) cursors.new.items (slots_of P.state slots.new.items) (reverse desk.old.broker.entries) (reverse desk.new.broker.entries) rounded) }
-    ensures less { IfOk result (λ rounded. TurnsLessen (turns_in cursors.old.items (slots_of P.state slots.old.items) (reverse desk.old.broker.entries)) (turns_in cursors.new.items (slots_of P.state slots.new.items) (reverse desk.new.broker.entries)) rounded) }
+    ensures less { IfOk result (λ rounded. TurnsLessen (turns_in cursors.old.items (slots_of P.state slots.old.items)) (turns_in cursors.new.items (slots_of P.state slots.new.items)) rounded) }
     ensures kept { OnOk result (KeepsPlaces (slots_of P.state slots.old.items) (slots_of P.state slots.new.items) (P.state starter.old) (P.state starter.new)) }
     ensures same_world { OnOk result (desk.new.broker.world ≡ desk.old.broker.world) }
 {
@@ -120,7 +110,7 @@ fn next_round<P: Starter>(
     }
 }
 
-/// Round after round, until nobody can do anything or someone is spent.
+/// Round after round, until nobody can do anything, or up to the entry by which someone is spent.
 pub fn run_rounds<P: Starter>(
     alloc: Global,
     cursors: &mut Vec<Cursor<'_>>,
@@ -128,17 +118,12 @@ pub fn run_rounds<P: Starter>(
     desk: &mut BrokerDesk,
     starter: &mut P,
 ) -> Result<RunEnd, NoMemory>
-    requires stand { AllStand desk.old.broker.world (scripts_in cursors.old.items) cursors.old.items (reverse desk.old.broker.entries) }
-    requires hosts_stand { HostsStand (P.state starter.old).writing desk.old.broker.world (reverse desk.old.broker.entries) (slots_of P.state slots.old.items) }
-    requires hosts_unspent { first_spent_slot 0 (slots_of P.state slots.old.items) ≡ None }
+    requires { AreReady (P.state starter.old).writing desk.old.broker.world (scripts_in cursors.old.items) cursors.old.items (slots_of P.state slots.old.items) (reverse desk.old.broker.entries) }
     ensures rounds { IfOk result (λ end. AreRounds (scripts_in cursors.old.items) (reverse desk.old.broker.entries) (reverse desk.new.broker.entries) end) }
     ensures hosts_stand { OnOk result (HostsStand (P.state starter.old).writing desk.old.broker.world (reverse desk.new.broker.entries) (slots_of P.state slots.new.items)) }
     ensures kept { OnOk result (KeepsPlaces (slots_of P.state slots.old.items) (slots_of P.state slots.new.items) (P.state starter.old) (P.state starter.new)) }
     ensures same_world { OnOk result (desk.new.broker.world ≡ desk.old.broker.world) }
 {
-    if let Some(i) = first_spent(cursors) {
-        return Ok(RunEnd::Spent(SpentWho::Endpoint(i)));
-    }
     loop {
         match next_round(alloc, cursors, slots, desk, starter)? {
             Rounded::Moved => {}

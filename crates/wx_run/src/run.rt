@@ -16,8 +16,8 @@ use wx_host_launch::Starter;
 use wx_id::{ContextNo, NoMemory};
 use wx_script::Scene;
 
-/// A run of the scene: the opening, and round after round until nobody can do anything or someone is spent. The starter
-/// starts the hosts' programs, and takes over a record for each host.
+/// A run of the scene: the opening, and round after round, until nobody can do anything, or up to the entry by which someone is
+/// spent. The starter starts the hosts' programs, and takes over a record for each host.
 pub fn run_scene<P: Starter>(
     alloc: Global,
     scene: &Scene,

@@ -100,7 +100,7 @@ returns-then-is_spent-clause-stand g c =
     let p = slot_of state c.index_mut-slot.result.now in
     let q = slot_of state c.hear.new.self in
     let b = reverse c.hear.new.broker.entries in
-    let heard : IsHeardTurn world i slots a b p q = record { at = first.slot.at; first = first.first; turn = c.in_ok-hear.ensures.turn; stands = c.in_ok-hear.ensures.stands; less = c.in_ok-hear.ensures.less } in
+    let heard : IsHeardTurn world i slots a b p q = record { at = first.slot.at; first = first.first; turn = c.in_ok-hear.ensures.turn; stands = c.in_ok-hear.ensures.stands; started = c.in_ok-hear.ensures.started; less = c.in_ok-hear.ensures.less } in
     let set = set_of state c.args.slots.now.items i c.hear.new.self in
     λ writing so. subst (λ s. HostsStand writing world b s) set (stand_behind writing world i slots a b p q c.requires.unspent (heard_turn world i slots a b p q heard) so)
 
@@ -116,7 +116,7 @@ returns-then-is_spent-clause-heard g c =
     let p = slot_of state c.index_mut-slot.result.now in
     let q = slot_of state c.hear.new.self in
     let b = reverse c.hear.new.broker.entries in
-    let heard : IsHeardTurn world i slots a b p q = record { at = first.slot.at; first = first.first; turn = c.in_ok-hear.ensures.turn; stands = c.in_ok-hear.ensures.stands; less = c.in_ok-hear.ensures.less } in
+    let heard : IsHeardTurn world i slots a b p q = record { at = first.slot.at; first = first.first; turn = c.in_ok-hear.ensures.turn; stands = c.in_ok-hear.ensures.stands; started = c.in_ok-hear.ensures.started; less = c.in_ok-hear.ensures.less } in
     let set = set_of state c.args.slots.now.items i c.hear.new.self in
     subst (λ s. FirstHeard a b slots s (Spent (Host (host_numbered i)))) set
     (heard_spent c.requires.stand.0 world i slots a b p q c.requires.stand.1 (size_of state c.args.slots.now.items ∙ c.requires.all) c.requires.unspent heard (sym {A = Bool} c.if-is_spent.ensures))
@@ -133,7 +133,7 @@ returns-else-is_spent-clause-stand g c =
     let p = slot_of state c.index_mut-slot.result.now in
     let q = slot_of state c.hear.new.self in
     let b = reverse c.hear.new.broker.entries in
-    let heard : IsHeardTurn world i slots a b p q = record { at = first.slot.at; first = first.first; turn = c.in_ok-hear.ensures.turn; stands = c.in_ok-hear.ensures.stands; less = c.in_ok-hear.ensures.less } in
+    let heard : IsHeardTurn world i slots a b p q = record { at = first.slot.at; first = first.first; turn = c.in_ok-hear.ensures.turn; stands = c.in_ok-hear.ensures.stands; started = c.in_ok-hear.ensures.started; less = c.in_ok-hear.ensures.less } in
     let set = set_of state c.args.slots.now.items i c.hear.new.self in
     λ writing so. subst (λ s. HostsStand writing world b s) set (stand_behind writing world i slots a b p q c.requires.unspent (heard_turn world i slots a b p q heard) so)
 
@@ -149,6 +149,6 @@ returns-else-is_spent-clause-heard g c =
     let p = slot_of state c.index_mut-slot.result.now in
     let q = slot_of state c.hear.new.self in
     let b = reverse c.hear.new.broker.entries in
-    let heard : IsHeardTurn world i slots a b p q = record { at = first.slot.at; first = first.first; turn = c.in_ok-hear.ensures.turn; stands = c.in_ok-hear.ensures.stands; less = c.in_ok-hear.ensures.less } in
+    let heard : IsHeardTurn world i slots a b p q = record { at = first.slot.at; first = first.first; turn = c.in_ok-hear.ensures.turn; stands = c.in_ok-hear.ensures.stands; started = c.in_ok-hear.ensures.started; less = c.in_ok-hear.ensures.less } in
     let set = set_of state c.args.slots.now.items i c.hear.new.self in
-    subst (λ s. FirstHeard a b slots s Moved) set (heard_moved world i slots a b p q c.requires.unspent heard (sym {A = Bool} c.if-is_spent.ensures))
+    subst (λ s. FirstHeard a b slots s Moved) set (heard_moved world i slots a b p q c.requires.unspent c.requires.started heard (sym {A = Bool} c.if-is_spent.ensures))

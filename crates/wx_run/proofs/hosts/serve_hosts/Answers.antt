@@ -91,8 +91,8 @@ returns-then-is_spent-clause-served g c =
     } in
     let old = slots_of state c.args.slots.now.items in
     let past = reverse c.args.broker.now.entries in
-    subst (λ s. HostsServed past b old s (Spent (Host (host_numbered i)))) (set_of state c.loop-i.slots.items i c.serve.new.self)
-    (turn_spends c.requires.stand.0 world i old slots past a b p q c.loop-i.moved c.in_ok-served.served c.requires.stand.1 (size_of state c.args.slots.now.items ∙ c.requires.all) so next (sym {A = Bool} c.if-is_spent.ensures))
+    λ known first. subst (λ s. HostsServed known past b old s (Spent (Host (host_numbered i)))) (set_of state c.loop-i.slots.items i c.serve.new.self)
+    (turn_spends c.requires.stand.0 world i old slots past a b p q c.loop-i.moved c.in_ok-served.served c.requires.stand.1 (size_of state c.args.slots.now.items ∙ c.requires.all) so next (sym {A = Bool} c.if-is_spent.ensures) known first)
 
 pub loop-i-preserved : goal.loop-i-preserved
 loop-i-preserved g c =
@@ -135,7 +135,7 @@ returns-then-moved-clause-served g c =
     let past = reverse c.args.broker.now.entries in
     let b = reverse c.loop-i.broker.entries in
     let all : c.loop-i.i ≡ length (hosts past) = omega (arith, c.loop-i.slots.ok.0, c.loop-i.invariant.same_length, c.loop-i-test.false, c.loop-i.auto.i-end, c.loop-i.invariant.same_size, c.requires.all) in
-    all_moved world c.loop-i.i old slots past b all (subst (λ m. ServedSoFar world c.loop-i.i old slots past b m) c.if-moved.true so)
+    all_moved world c.loop-i.i old slots past b all (size_of state c.args.slots.now.items ∙ c.requires.all) (subst (λ m. ServedSoFar world c.loop-i.i old slots past b m) c.if-moved.true so)
 
 pub returns-else-moved-clause-served : goal.returns-else-moved-clause-served
 returns-else-moved-clause-served g c =
@@ -147,4 +147,4 @@ returns-else-moved-clause-served g c =
     let past = reverse c.args.broker.now.entries in
     let b = reverse c.loop-i.broker.entries in
     let all : c.loop-i.i ≡ length (hosts past) = omega (arith, c.loop-i.slots.ok.0, c.loop-i.invariant.same_length, c.loop-i-test.false, c.loop-i.auto.i-end, c.loop-i.invariant.same_size, c.requires.all) in
-    all_rested world c.loop-i.i old slots past b all (size_of state c.args.slots.now.items ∙ c.requires.all) (subst (λ m. ServedSoFar world c.loop-i.i old slots past b m) c.if-moved.false so)
+    λ known first. all_rested world c.loop-i.i old slots past b all (size_of state c.args.slots.now.items ∙ c.requires.all) (subst (λ m. ServedSoFar world c.loop-i.i old slots past b m) c.if-moved.false so) known

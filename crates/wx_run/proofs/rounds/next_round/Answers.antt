@@ -23,21 +23,18 @@ returns-in-Idle-clause-round g c =
     let old = slots_of g.P.Starter.state c.whole_round.new.slots.items in
     let legal : OnOk c.hear_first.result (IsLegal c.args.desk.now.broker.world c.hear_first.new.broker.entries) = subst (λ w. OnOk c.hear_first.result (IsLegal w c.hear_first.new.broker.entries)) c.in_ok-rounded.ensures.same_world c.hear_first.ensures.legal in
     let idle : IsWholeRound scripts ps old a b Idle = subst (λ r. IsWholeRound scripts ps old a b r) c.in-Idle.is c.in_ok-rounded.ensures.round in
-    heard_next c.args.desk.now.broker.world scripts ps old (slots_of g.P.Starter.state c.hear_first.new.slots.items) a b (reverse c.hear_first.new.broker.entries) c.hear_first.result c.in_ok-rounded.ensures.stand idle c.hear_first.ensures.heard legal
+    let size = same_sizes g.P.Starter.state c.whole_round.new.slots.items c.hear_first.new.slots.items c.hear_first.ensures.same_size in
+    heard_next c.args.desk.now.broker.world scripts ps old (slots_of g.P.Starter.state c.hear_first.new.slots.items) a b (reverse c.hear_first.new.broker.entries) c.hear_first.result c.in_ok-rounded.ensures.stand size idle c.hear_first.ensures.heard legal
 
 pub returns-in-Idle-clause-less : goal.returns-in-Idle-clause-less
 returns-in-Idle-clause-less g c =
     let state = g.P.Starter.state in
-    let scripts = scripts_in c.args.cursors.now.items in
     let ps = c.whole_round.new.cursors.items in
-    let a = reverse c.args.desk.now.broker.entries in
     let b = reverse c.whole_round.new.desk.broker.entries in
     let old = slots_of state c.whole_round.new.slots.items in
-    let before = turns_in c.args.cursors.now.items (slots_of state c.args.slots.now.items) a in
-    let idle : IsWholeRound scripts ps old a b Idle = subst (λ r. IsWholeRound scripts ps old a b r) c.in-Idle.is c.in_ok-rounded.ensures.round in
-    let less : TurnsLessen before (turns_in ps old b) Idle = subst (λ r. TurnsLessen before (turns_in ps old b) r) c.in-Idle.is c.in_ok-rounded.ensures.less in
-    heard_lessens_on before scripts ps old (slots_of state c.hear_first.new.slots.items) a b (reverse c.hear_first.new.broker.entries) c.hear_first.result idle less
-    (same_sizes state c.whole_round.new.slots.items c.hear_first.new.slots.items c.hear_first.ensures.same_size) c.hear_first.ensures.heard
+    let before = turns_in c.args.cursors.now.items (slots_of state c.args.slots.now.items) in
+    let less : TurnsLessen before (turns_in ps old) Idle = subst (λ r. TurnsLessen before (turns_in ps old) r) c.in-Idle.is c.in_ok-rounded.ensures.less in
+    heard_lessens_on before ps old (slots_of state c.hear_first.new.slots.items) b (reverse c.hear_first.new.broker.entries) c.hear_first.result less c.hear_first.ensures.heard
 
 pub returns-in_default : goal.returns-in_default
 returns-in_default g c =
@@ -45,8 +42,8 @@ returns-in_default g c =
     record {
       stand = all.stand;
       hosts_stand = all.hosts_stand;
-      round = next_whole c.args.desk.now.broker.world (scripts_in c.args.cursors.now.items) c.whole_round.new.cursors.items (slots_of g.P.Starter.state c.whole_round.new.slots.items)
-          (reverse c.args.desk.now.broker.entries) (reverse c.whole_round.new.desk.broker.entries) c.in_ok-rounded.rounded all.stand c.in_default.not-Idle all.round;
+      round = next_whole (scripts_in c.args.cursors.now.items) c.whole_round.new.cursors.items (slots_of g.P.Starter.state c.whole_round.new.slots.items)
+          (reverse c.args.desk.now.broker.entries) (reverse c.whole_round.new.desk.broker.entries) c.in_ok-rounded.rounded c.in_default.not-Idle all.round;
       less = all.less;
       kept = all.kept;
       same_world = all.same_world;

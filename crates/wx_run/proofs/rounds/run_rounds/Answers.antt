@@ -3,27 +3,19 @@ use Rattle.std.specs.Prelude.{reverse}
 use Rattle.wx_host_slot.specs.Slots.{slots_of}
 use Rattle.wx_run.specs.declared.rounds.Rounded.TheVariants.{Moved, Idle, Spent}
 use Rattle.wx_run.specs.declared.outcome.RunEnd.TheVariants.{Done, Stalled}
-use Rattle.wx_run.specs.Cursors.{scripts_in, first_spent_in, all_left}
+use Rattle.wx_run.specs.Cursors.{scripts_in, all_left}
 use Rattle.wx_run.specs.Round.{AllStand}
 use Rattle.wx_run.specs.Running.{IsNextRound, turns_in, TurnsLessen, AreRounds}
 use Rattle.wx_run.proofs.RoundLemmas.{scripts_behind}
-use Rattle.wx_run.proofs.RunLemmas.{keeps_none, keeps_on, keeps_writing, ready_now, stand_now, hosts_now, round_now, rounds_begin, rounds_go_on, rounds_idle, rounds_spent, spent_before}
+use Rattle.wx_run.proofs.RunLemmas.{keeps_none, keeps_on, keeps_writing, ready_now, stand_now, hosts_now, round_now, rounds_begin, rounds_go_on, rounds_idle, rounds_spent}
 use Rattle.wx_run.proofs.rounds.run_rounds.Goals as goal
 
-pub returns-in-Some-clause-rounds : goal.returns-in-Some-clause-rounds
-returns-in-Some-clause-rounds g c =
-    spent_before c.args.desk.now.broker.world (scripts_in c.args.cursors.now.items) c.args.cursors.now.items _ c.in-Some.i c.requires.stand
-    (ap (first_spent_in 0) (sym c.deref.ensures.value) ∙ sym c.in-Some.ensures)
-
 pub loop-cursors-init : goal.loop-cursors-init
-loop-cursors-init g c =
-    let unspent = ap (first_spent_in 0) (sym c.deref.ensures.value) ∙ sym c.in_default.ensures in
-    record {
-      same_world = refl;
-      kept = keeps_none (slots_of g.P.Starter.state c.args.slots.now.items) (g.P.Starter.state c.args.starter.now);
-      so_far = rounds_begin (g.P.Starter.state c.args.starter.now).writing c.args.desk.now.broker.world (scripts_in c.args.cursors.now.items) c.args.cursors.now.items (slots_of g.P.Starter.state c.args.slots.now.items) _
-          (record { endpoints = c.requires.stand; unspent = unspent; hosts_stand = c.requires.hosts_stand; hosts_unspent = c.requires.hosts_unspent });
-    }
+loop-cursors-init g c = record {
+  same_world = refl;
+  kept = keeps_none (slots_of g.P.Starter.state c.args.slots.now.items) (g.P.Starter.state c.args.starter.now);
+  so_far = rounds_begin (g.P.Starter.state c.args.starter.now).writing c.args.desk.now.broker.world (scripts_in c.args.cursors.now.items) c.args.cursors.now.items (slots_of g.P.Starter.state c.args.slots.now.items) _ c.requires;
+}
 
 pub next_round-requires-after_bounds : goal.next_round-requires-after_bounds
 next_round-requires-after_bounds g c κs within =
@@ -36,8 +28,8 @@ next_round-requires-after_bounds g c κs within =
 
 pub loop-cursors-smaller : goal.loop-cursors-smaller
 loop-cursors-smaller g c =
-    let before = turns_in c.loop-cursors.cursors.items (slots_of g.P.Starter.state c.loop-cursors.slots.items) (reverse c.loop-cursors.desk.broker.entries) in
-    let after = turns_in c.next_round.new.cursors.items (slots_of g.P.Starter.state c.next_round.new.slots.items) (reverse c.next_round.new.desk.broker.entries) in
+    let before = turns_in c.loop-cursors.cursors.items (slots_of g.P.Starter.state c.loop-cursors.slots.items) in
+    let after = turns_in c.next_round.new.cursors.items (slots_of g.P.Starter.state c.next_round.new.slots.items) in
     subst (λ r. TurnsLessen before after r) c.in-Moved.is c.in_ok-next_round.ensures.less
 
 pub loop-cursors-preserved : goal.loop-cursors-preserved
@@ -82,7 +74,7 @@ returns-in-Idle-clause-rounds g c =
     let stand : AllStand world scripts qs d = stand_now world c.loop-cursors.desk.broker.world scripts (scripts_in ps) qs d c.loop-cursors.invariant.same_world same_scripts all.stand in
     let round : IsNextRound scripts qs new b d Idle = round_now scripts (scripts_in ps) qs new b d c.in_ok-next_round.field-0 Idle same_scripts c.in-Idle.is all.round in
     subst (λ end. AreRounds scripts (reverse c.args.desk.now.broker.entries) d end)
-    (sym (c.end_of.ensures ∙ ap (λ ps. cond (all_left ps) Done Stalled) c.deref-in-Idle.ensures.value))
+    (sym (c.end_of.ensures ∙ ap (λ ps. cond (all_left ps) Done Stalled) c.deref.ensures.value))
     (rounds_idle (state c.args.starter.now).writing world scripts ps qs old new _ b d so stand round)
 
 pub returns-in-Spent-clause-rounds : goal.returns-in-Spent-clause-rounds

@@ -17,4 +17,4 @@ abbrev pub invariant-loop-cursors : goal.invariant-loop-cursors
 invariant-loop-cursors g l = Invariant l.fn.cursors.items l.cursors.items (slots_of g.P.Starter.state l.fn.slots.items) (slots_of g.P.Starter.state l.slots.items) l.fn.desk.broker l.desk.broker (g.P.Starter.state l.fn.starter) (g.P.Starter.state l.starter)
 
 abbrev pub decreases-loop-cursors : goal.decreases-loop-cursors
-decreases-loop-cursors g l = turns_in l.cursors.items (slots_of g.P.Starter.state l.slots.items) (reverse l.desk.broker.entries)
+decreases-loop-cursors g l = turns_in l.cursors.items (slots_of g.P.Starter.state l.slots.items)

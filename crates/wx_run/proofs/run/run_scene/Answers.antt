@@ -7,29 +7,23 @@ use Rattle.wx_host_slot.specs.Slots.{slot_of, slots_of}
 use Rattle.wx_run.specs.Opened.{OpenedSoFar}
 use Rattle.wx_run.specs.Rounds.{IsSpent}
 use Rattle.wx_run.specs.Hosts.{HaveRecords}
-use Rattle.wx_run.specs.Slots.{HostsStand}
+use Rattle.wx_run.specs.Cursors.{scripts_in}
 use Rattle.wx_run.specs.Run.{IsRunOf}
-use Rattle.wx_run.specs.Running.{KeepsPlaces}
+use Rattle.wx_run.specs.Running.{AreReady, KeepsPlaces}
 use Rattle.wx_run.proofs.RunLemmas.{keeps_on, keeps_writing, places_added, hosts_now, have_records}
-use Rattle.wx_run.proofs.OpeningLemmas.{opened_stand, opened_hosts, opened_rounds, run_of}
+use Rattle.wx_run.proofs.OpeningLemmas.{opened_ready, opened_rounds, run_of}
 use Rattle.wx_run.proofs.run.run_scene.Goals as goal
 
-pub run_rounds-requires-clause-stand : goal.run_rounds-requires-clause-stand
-run_rounds-requires-clause-stand g c κs within =
-    let endpoints = c.args.scene.now.endpoints in
-    let opened : OpenedSoFar c.open.new.desk.broker.world endpoints (length endpoints) c.in_ok-cursors.cursors.items (reverse c.open.new.desk.broker.entries) =
-    subst (λ w. OpenedSoFar w endpoints (length endpoints) c.in_ok-cursors.cursors.items (reverse c.open.new.desk.broker.entries)) (sym c.in_ok-cursors.ensures.same_world) c.in_ok-cursors.ensures.opened in
-    opened_stand c.open.new.desk.broker.world endpoints _ _ opened
-
-pub run_rounds-requires-clause-hosts_stand : goal.run_rounds-requires-clause-hosts_stand
-run_rounds-requires-clause-hosts_stand g c κs within =
+pub run_rounds-requires-after_bounds : goal.run_rounds-requires-after_bounds
+run_rounds-requires-after_bounds g c κs within =
     let writing = (g.P.Starter.state c.args.starter.now).writing in
     let world = c.open.new.desk.broker.world in
     let past = reverse c.open.new.desk.broker.entries in
+    let ps = c.in_ok-cursors.cursors.items in
     let endpoints = c.args.scene.now.endpoints in
-    let none : HostsStand writing world past [] = opened_hosts writing world endpoints c.in_ok-cursors.cursors.items past
-    (subst (λ w. OpenedSoFar w endpoints (length endpoints) c.in_ok-cursors.cursors.items past) (sym c.in_ok-cursors.ensures.same_world) c.in_ok-cursors.ensures.opened) in
-    subst (λ slots. HostsStand writing world past (slots_of g.P.Starter.state slots)) (sym c.new-slots.ensures.items) none
+    let ready : AreReady writing world (scripts_in ps) ps [] past = opened_ready writing world endpoints ps past
+    (subst (λ w. OpenedSoFar w endpoints (length endpoints) ps past) (sym c.in_ok-cursors.ensures.same_world) c.in_ok-cursors.ensures.opened) in
+    subst (λ slots. AreReady writing world (scripts_in ps) ps (slots_of g.P.Starter.state slots) past) (sym c.new-slots.ensures.items) ready
 
 pub returns-clause-run : goal.returns-clause-run
 returns-clause-run g c =
