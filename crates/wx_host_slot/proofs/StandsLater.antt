@@ -16,7 +16,7 @@ use Rattle.wx_host_launch.specs.Halves.{Sends, whole}
 use Rattle.wx_host_launch.specs.Pipes.{Stream}
 use Rattle.wx_host_launch.specs.Records.{Program, Account, HostRecord, Writing, StarterState, slot_like, with_bytes, finished}
 use Rattle.wx_host_slot.specs.Journals.{entries_of, taken_by, said_by, EachOf, IsInPlace, program_of}
-use Rattle.wx_host_slot.specs.Meets.{IsHeard, ToldEnd, CountedEnd, MeetsAccount, ToldAccount, MeetsStarted, Meets, was_started, never_started}
+use Rattle.wx_host_slot.specs.Meets.{IsHeard, ToldEnd, CountedEnd, MeetsAccount, ToldAccount, MeetsStarted, RecordMeets, was_started, never_started}
 use Rattle.wx_host_slot.specs.Slots.{ChildState, SlotState, waiting_slot, record_behind, closing_record, PipesTold, Runs, IsStartedRecord, StandsRunning, StandsAs, waiting, running, at_end, Stands}
 use Rattle.wx_host_slot.proofs.JournalLemmas.{each_unended, entries_others, taken_others, said_others, ended_others, each_others, none_ended, program_later}
 
@@ -151,7 +151,7 @@ meets_running writing world past h slot child s =
       told = told_running writing world past h r slot.starter.slot (program_of world past h) child.input.sent child.output.stream s.host_unended refl s.runs.fit s.starter_record s.runs.pipes;
     }
 
-as_at_end : (spent : Type 0) (writing : Option Writing) (world : WorldLists) (past : List Entry) (h : HostNo) (slot : SlotState) → slot.made ≡ entries_of h past → StandsAs writing world past h slot → (has_ended past h ≡ false → spent) → Meets spent writing world past h (closing_record slot)
+as_at_end : (spent : Type 0) (writing : Option Writing) (world : WorldLists) (past : List Entry) (h : HostNo) (slot : SlotState) → slot.made ≡ entries_of h past → StandsAs writing world past h slot → (has_ended past h ≡ false → spent) → RecordMeets spent writing world past h (closing_record slot)
 as_at_end spent writing world past h slot counted (waiting unended empty is) cause =
     let none : closing_record slot ≡ slot.starter.slot = ap (λ (s : SlotState). record_behind slot.starter.slot s.child) is in
     never_started (cause unended) (sym counted ∙ ap (λ (s : SlotState). s.made) is) (none ∙ empty)
@@ -161,7 +161,7 @@ as_at_end spent writing world past h slot counted (running child s) cause =
 as_at_end spent writing world past h slot counted (at_end ended was meets) cause = was_started meets
 
 -- At a run's end the record that a slot leaves meets the journal.
-pub meets_at_end : (spent : Type 0) (writing : Option Writing) (world : WorldLists) (past : List Entry) (h : HostNo) (slot : SlotState) → Stands writing world past h slot → (has_ended past h ≡ false → spent) → Meets spent writing world past h (closing_record slot)
+pub meets_at_end : (spent : Type 0) (writing : Option Writing) (world : WorldLists) (past : List Entry) (h : HostNo) (slot : SlotState) → Stands writing world past h slot → (has_ended past h ≡ false → spent) → RecordMeets spent writing world past h (closing_record slot)
 meets_at_end spent writing world past h slot s cause = as_at_end spent writing world past h slot s.counted s.stands cause
 
 -- A new slot stands to a journal in which its host has no entry.

@@ -87,6 +87,6 @@ pub record MeetsStarted (writing : Option Writing) (world : WorldLists) (past : 
   pub told : ToldAccount (MeetsAccount world past h r) writing r.account
 
 -- Host h's record meets the journal. Only where the run was spent may the host have no entry, and an empty record.
-pub data Meets (spent : Type 0) (writing : Option Writing) (world : WorldLists) (past : List Entry) (h : HostNo) (r : HostRecord) : Type 0 where
-  was_started : MeetsStarted writing world past h r → Meets spent writing world past h r
-  never_started : spent → entries_of h past ≡ 0 → r ≡ empty_record writing → Meets spent writing world past h r
+pub data RecordMeets (spent : Type 0) (writing : Option Writing) (world : WorldLists) (past : List Entry) (h : HostNo) (r : HostRecord) : Type 0 where
+  was_started : MeetsStarted writing world past h r → RecordMeets spent writing world past h r
+  never_started : spent → entries_of h past ≡ 0 → r ≡ empty_record writing → RecordMeets spent writing world past h r

@@ -33,7 +33,7 @@ unfolding reason_at frame_reason_at end_reason_at behind
 reason_again reason.StartFailed rest fits short ends = refl
 reason_again reason.ReadFailed rest fits short ends = refl
 reason_again (reason.TooLong len) rest fits short ends = row_again reason_text reason_at (codes "too_long ") reason.TooLong num32 (λ bytes. refl) (λ p. refl) len rest fits short ends
-reason_again (reason.BadJson place kind) rest fits short ends = row_again reason_text reason_at (codes "bad_json ") (λ p. reason.BadJson p.0 p.1) bad_json_reads (λ bytes. refl) (λ p. refl) (place, kind) rest fits short ends
+reason_again (reason.BadJson place kind) rest fits short ends = row_again reason_text reason_at (codes "bad_json ") (λ p. reason.BadJson p.0 p.1) bad_json_reads (λ bytes. refl) (λ p. refl) (place, kind) rest (fits, tt) short ends
 reason_again (reason.Cut have) rest fits short ends = row_again reason_text reason_at (codes "cut ") reason.Cut num64 (λ bytes. refl) (λ p. refl) have rest fits short ends
 reason_again reason.WriteFailed rest fits short ends = refl
 reason_again reason.Exited rest fits short ends = refl
@@ -45,7 +45,7 @@ end_reason_takes = choice_takes reason_text ReasonFits end_reason_rows (just_row
 
 frame_reason_takes : Taking reason_text ReasonFits frame_reason_at
 unfolding frame_reason_at
-frame_reason_takes = choice_or_takes reason_text ReasonFits frame_reason_rows end_reason_at (mapped_row (codes "too_long ") reason.TooLong num32 (λ p h. h) (λ p. refl), (mapped_row (codes "bad_json ") (λ p. reason.BadJson p.0 p.1) bad_json_reads (λ p h. h) (λ p. refl), (mapped_row (codes "cut ") reason.Cut num64 (λ p h. h) (λ p. refl), tt))) end_reason_takes
+frame_reason_takes = choice_or_takes reason_text ReasonFits frame_reason_rows end_reason_at (mapped_row (codes "too_long ") reason.TooLong num32 (λ p h. h) (λ p. refl), (mapped_row (codes "bad_json ") (λ p. reason.BadJson p.0 p.1) bad_json_reads (λ p h. h.0) (λ p. refl), (mapped_row (codes "cut ") reason.Cut num64 (λ p h. h) (λ p. refl), tt))) end_reason_takes
 
 reason_takes : Taking reason_text ReasonFits reason_at
 unfolding reason_at

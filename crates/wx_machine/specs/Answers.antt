@@ -156,7 +156,8 @@ abbrev pub is_short_said : Call → Bool
 is_short_said (HostSaid text) = nat_le (length text) LONGEST_SAID
 is_short_said _ = true
 
--- who may make a call: a context whose number was given out, and for an enter the next number; or a host that was started
+-- who may make a call: a context whose number was given out, and for an enter the next number; or a host that was started. A host makes
+-- the calls of hosts alone and says no more than it may, and a context makes all others.
 abbrev pub may_make : List Entry → Who → Call → Bool
 may_make past (ByContext c) (Enter x) = c.0 == contexts past
 may_make past (ByContext c) call = not (is_of_host call) && nat_lt c.0 (contexts past)

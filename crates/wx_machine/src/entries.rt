@@ -35,7 +35,7 @@ pub enum Reason {
     Cut { have: u64 },
     /// It stopped writing behind a whole frame.
     Exited,
-    /// Its channel was closed.
+    /// Its channel was closed when it last said something.
     Closed,
 }
 

@@ -5,7 +5,7 @@ use Rattle.wx_json.specs.Utf8.{no_char, utf8_1}
 use Rattle.wx_json.specs.Text.{IsJsonText, IsPrefixOfJson, IsUnfinished}
 use Rattle.wx_json.specs.declared.JsonFault.{JsonFault}
 use Rattle.wx_json.specs.declared.JsonKind.TheVariants.{Ends}
-use Rattle.wx_native_frame.specs.Frames.{told, text_in, IsTrouble, cut_text}
+use Rattle.wx_native_frame.specs.Frames.{told_length, text_in, IsTrouble, cut_text}
 use Rattle.wx_native_frame.specs.declared.FrameFault.TheVariants.{BadJson}
 
 no_number : {r : List ℕ} → Number [] r → ⊥
@@ -32,7 +32,7 @@ empty_fault = record { place = 0; kind = Ends }
 pub empty_unfinished : IsUnfinished [] empty_fault
 empty_unfinished = record { kind = refl; place = refl; before = empty_prefix; faulty = λ j. no_json j.depth j.json }
 
-pub empty_trouble : (r : List ℕ) (limit : ℕ) → 4 ≤ length r → told r ≡ 0 → IsTrouble r limit (BadJson empty_fault)
+pub empty_trouble : (r : List ℕ) (limit : ℕ) → 4 ≤ length r → told_length r ≡ 0 → IsTrouble r limit (BadJson empty_fault)
 empty_trouble r limit le e =
     let none : text_in r ≡ [] = ap (λ n. take n (drop 4 r)) e in
     let P : List ℕ → Type 0 = λ x. IsUnfinished x empty_fault in

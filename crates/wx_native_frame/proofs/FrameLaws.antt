@@ -4,7 +4,7 @@ use Rattle.std.proofs.lemmas.List.{take-append-le, take-take, take_all, length-t
 use Rattle.std.proofs.lemmas.Bool.{cases_lt}
 use Rattle.wx_json.specs.Text.{IsJsonText, IsPrefixOfJson, IsOfKind, IsFault, IsUnfinished}
 use Rattle.wx_json.specs.declared.JsonFault.{JsonFault}
-use Rattle.wx_native_frame.specs.Frames.{IsFrame, length_bytes, told, text_in, IsTrouble, IsUnderWay}
+use Rattle.wx_native_frame.specs.Frames.{IsFrame, length_bytes, told_length, text_in, IsTrouble, IsUnderWay}
 use Rattle.wx_native_frame.specs.Frames.{too_long, bad_text, cut_text}
 use Rattle.wx_native_frame.specs.declared.FrameFault.{FrameFault}
 use Rattle.wx_native_frame.specs.declared.FrameFault.TheVariants.{TooLong, BadJson, NoMemory}
@@ -52,8 +52,8 @@ fault_behind u p f good h = elim (cases_lt f.place (length u)) [ inl lt ↦ absu
 pub frame-length : (limit : ℕ) (b t : List ℕ) → IsFrame limit b t → length b ≡ 4 + length t
 frame-length limit b t h = ap length h.bytes_are ∙ length-append (length_bytes (length t)) t ∙ ap (λ n. n + length t) (length-length_bytes (length t))
 
-pub frame-told : (limit : ℕ) (b t : List ℕ) → limit < 2 ^ 32 → IsFrame limit b t → told b ≡ length t
-frame-told limit b t small h = let fits = h.fits in ap told h.bytes_are ∙ told-length_bytes (length t) t (omega arith)
+pub frame-told : (limit : ℕ) (b t : List ℕ) → limit < 2 ^ 32 → IsFrame limit b t → told_length b ≡ length t
+frame-told limit b t small h = let fits = h.fits in ap told_length h.bytes_are ∙ told-length_bytes (length t) t (omega arith)
 
 pub frame-text : (limit : ℕ) (b t : List ℕ) → IsFrame limit b t → drop 4 b ≡ t
 frame-text limit b t h = ap (drop 4) h.bytes_are ∙ drop_seam 4 (length_bytes (length t)) t (length-length_bytes (length t))
@@ -62,7 +62,7 @@ frame-text limit b t h = ap (drop 4) h.bytes_are ∙ drop_seam 4 (length_bytes (
 pub frame-text_in : (limit : ℕ) (b t s : List ℕ) → limit < 2 ^ 32 → IsFrame limit b t → text_in (b ++ s) ≡ t
 frame-text_in limit b t s small h =
     let long = frame-length limit b t h in
-    let n : told (b ++ s) ≡ length t = told-append b s (omega arith) ∙ frame-told limit b t small h in
+    let n : told_length (b ++ s) ≡ length t = told-append b s (omega arith) ∙ frame-told limit b t small h in
     let parts : b ++ s ≡ length_bytes (length t) ++ (t ++ s) = ap (λ x. x ++ s) h.bytes_are ∙ append_assoc (length_bytes (length t)) t s in
     ap (λ k. take k (drop 4 (b ++ s))) n ∙ ap (λ x. take (length t) (drop 4 x)) parts ∙ ap (take (length t)) (drop_seam 4 (length_bytes (length t)) (t ++ s) (length-length_bytes (length t))) ∙ take_seam (length t) t s refl
 
@@ -86,22 +86,22 @@ short_no_trouble r limit NoMemory short h = elim h [ ]
 pub no_memory_no_trouble : (r : List ℕ) (limit : ℕ) → ¬ IsTrouble r limit NoMemory
 no_memory_no_trouble r limit h = elim h [ ]
 
-pub text_in-more : (r s : List ℕ) → 4 ≤ length r → text_in (r ++ s) ≡ take (told r) (drop 4 r ++ s)
+pub text_in-more : (r s : List ℕ) → 4 ≤ length r → text_in (r ++ s) ≡ take (told_length r) (drop 4 r ++ s)
 text_in-more r s le =
     let long = length-take 4 r in
     let parts : r ++ s ≡ take 4 r ++ (drop 4 r ++ s) = ap (λ x. x ++ s) (sym (take-append-drop 4 r)) ∙ append_assoc (take 4 r) (drop 4 r) s in
-    let front : told r ≡ told (take 4 r) = ap told (sym (take-append-drop 4 r)) ∙ told-append (take 4 r) (drop 4 r) (omega arith) in
+    let front : told_length r ≡ told_length (take 4 r) = ap told_length (sym (take-append-drop 4 r)) ∙ told-append (take 4 r) (drop 4 r) (omega arith) in
     ap text_in parts ∙ text_in-append (take 4 r) (drop 4 r ++ s) (omega arith) ∙ ap (λ n. take n (drop 4 r ++ s)) (sym front)
 
 -- the text so far, and what comes behind it
 text_in-longer : (r s : List ℕ) → 4 ≤ length r → (x : List ℕ) × (text_in (r ++ s) ≡ text_in r ++ x)
-text_in-longer r s le = (drop (length (take (told r) (drop 4 r))) (take (told r) (drop 4 r ++ s)), text_in-more r s le ∙ sym (take-append-drop (length (take (told r) (drop 4 r))) (take (told r) (drop 4 r ++ s))) ∙ ap (λ y. y ++ drop (length (take (told r) (drop 4 r))) (take (told r) (drop 4 r ++ s))) front)
+text_in-longer r s le = (drop (length (take (told_length r) (drop 4 r))) (take (told_length r) (drop 4 r ++ s)), text_in-more r s le ∙ sym (take-append-drop (length (take (told_length r) (drop 4 r))) (take (told_length r) (drop 4 r ++ s))) ∙ ap (λ y. y ++ drop (length (take (told_length r) (drop 4 r))) (take (told_length r) (drop 4 r ++ s))) front)
   where
-    front : take (length (take (told r) (drop 4 r))) (take (told r) (drop 4 r ++ s)) ≡ take (told r) (drop 4 r)
+    front : take (length (take (told_length r) (drop 4 r))) (take (told_length r) (drop 4 r ++ s)) ≡ take (told_length r) (drop 4 r)
     front =
-        let long = length-take (told r) (drop 4 r) in
-        let n : length (take (told r) (drop 4 r)) ≤ length (drop 4 r) = omega arith in
-        take-take (length (take (told r) (drop 4 r))) (told r) (drop 4 r ++ s) (omega arith) ∙ take-append-le (length (take (told r) (drop 4 r))) (drop 4 r) s n ∙ sym (take-take (length (take (told r) (drop 4 r))) (told r) (drop 4 r) (omega arith)) ∙ take_all (length (take (told r) (drop 4 r))) (take (told r) (drop 4 r)) (omega arith)
+        let long = length-take (told_length r) (drop 4 r) in
+        let n : length (take (told_length r) (drop 4 r)) ≤ length (drop 4 r) = omega arith in
+        take-take (length (take (told_length r) (drop 4 r))) (told_length r) (drop 4 r ++ s) (omega arith) ∙ take-append-le (length (take (told_length r) (drop 4 r))) (drop 4 r) s n ∙ sym (take-take (length (take (told_length r) (drop 4 r))) (told_length r) (drop 4 r) (omega arith)) ∙ take_all (length (take (told_length r) (drop 4 r))) (take (told_length r) (drop 4 r)) (omega arith)
 
 -- Trouble stays, whatever follows.
 pub trouble-append : (r s : List ℕ) (limit : ℕ) (f : FrameFault) → IsTrouble r limit f → IsTrouble (r ++ s) limit f
@@ -110,8 +110,8 @@ trouble-append r s limit (BadJson f) (bad_text le within h) =
     let (x, e) = text_in-longer r s le in
     bad_text (omega (arith, length-append r s)) (omega (arith, told-append r s le)) (let P : List ℕ → Type 0 = λ y. IsFault y f in subst P (sym e) (append_fault (text_in r) x f h))
 trouble-append r s limit (BadJson f) (cut_text le within all h) =
-    let long = length-take (told r) (drop 4 r) in
-    let same : text_in (r ++ s) ≡ text_in r = text_in-more r s le ∙ take-append-le (told r) (drop 4 r) s (omega arith) in
+    let long = length-take (told_length r) (drop 4 r) in
+    let same : text_in (r ++ s) ≡ text_in r = text_in-more r s le ∙ take-append-le (told_length r) (drop 4 r) s (omega arith) in
     cut_text (omega (arith, length-append r s)) (omega (arith, told-append r s le)) (ap length same ∙ all ∙ sym (told-append r s le)) (let P : List ℕ → Type 0 = λ y. IsUnfinished y f in subst P (sym same) h)
 trouble-append r s limit NoMemory h = elim h [ ]
 
@@ -122,8 +122,8 @@ trouble_no_frame r limit f small h i t fr = no f h
     text : text_in r ≡ t
     text = ap text_in (sym (take-append-drop i r)) ∙ frame-text_in limit (take i r) t (drop i r) small fr
 
-    tells : told r ≡ length t
-    tells = let long = frame-length limit (take i r) t fr in ap told (sym (take-append-drop i r)) ∙ told-append (take i r) (drop i r) (omega arith) ∙ frame-told limit (take i r) t small fr
+    tells : told_length r ≡ length t
+    tells = let long = frame-length limit (take i r) t fr in ap told_length (sym (take-append-drop i r)) ∙ told-append (take i r) (drop i r) (omega arith) ∙ frame-told limit (take i r) t small fr
 
     no : (g : FrameFault) → ¬ IsTrouble r limit g
     no (TooLong n) (too_long le is more) = let fits = fr.fits in omega (arith, tells)
@@ -139,13 +139,13 @@ short_under_way r limit short = record {
   no_frame = λ i t h. omega (arith, frame-length limit (take i r) t h, length-take i r);
 }
 
-pub text_under_way : (limit : ℕ) (head u : List ℕ) → limit < 2 ^ 32 → length head ≡ 4 → length u < told head → told head ≤ limit → IsPrefixOfJson u → IsUnderWay (head ++ u) limit
+pub text_under_way : (limit : ℕ) (head u : List ℕ) → limit < 2 ^ 32 → length head ≡ 4 → length u < told_length head → told_length head ≤ limit → IsPrefixOfJson u → IsUnderWay (head ++ u) limit
 text_under_way limit head u small e short within p = record { no_trouble = none; no_frame = no_whole }
   where
     here : text_in (head ++ u) ≡ u
-    here = text_in-append head u e ∙ take_all (told head) u (omega arith)
+    here = text_in-append head u e ∙ take_all (told_length head) u (omega arith)
 
-    tells : told (head ++ u) ≡ told head
+    tells : told_length (head ++ u) ≡ told_length head
     tells = told-append head u (omega arith)
 
     none : (f : FrameFault) → ¬ IsTrouble (head ++ u) limit f
@@ -157,5 +157,5 @@ text_under_way limit head u small e short within p = record { no_trouble = none;
     no_whole : (i : ℕ) (t : List ℕ) → ¬ IsFrame limit (take i (head ++ u)) t
     no_whole i t fr =
         let long = frame-length limit (take i (head ++ u)) t fr in
-        let said : told (head ++ u) ≡ length t = ap told (sym (take-append-drop i (head ++ u))) ∙ told-append (take i (head ++ u)) (drop i (head ++ u)) (omega arith) ∙ frame-told limit (take i (head ++ u)) t small fr in
+        let said : told_length (head ++ u) ≡ length t = ap told_length (sym (take-append-drop i (head ++ u))) ∙ told-append (take i (head ++ u)) (drop i (head ++ u)) (omega arith) ∙ frame-told limit (take i (head ++ u)) t small fr in
         omega (arith, tells, length-take i (head ++ u), length-append head u)

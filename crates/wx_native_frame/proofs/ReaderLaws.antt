@@ -7,7 +7,7 @@ use Rattle.std.proofs.lemmas.List.{append-nil, take_all, take_rest, length-take}
 use Rattle.wx_json.specs.Check.{Stands, taken}
 use Rattle.wx_json.specs.Text.{IsJsonText, IsPrefixOfJson, IsFault, IsEndFault}
 use Rattle.wx_json.specs.declared.JsonFault.{JsonFault}
-use Rattle.wx_native_frame.specs.Frames.{Unfinished, length_bytes, told, frame, IsTrouble, IsTroubleFirst, IsUnderWay, EndsFrame, StopsAt}
+use Rattle.wx_native_frame.specs.Frames.{Unfinished, length_bytes, told_length, frame, IsTrouble, IsTroubleFirst, IsUnderWay, EndsFrame, StopsAt}
 use Rattle.wx_native_frame.specs.Reader.{Reads, IsInside, IsSound, unfinished_of}
 use Rattle.wx_native_frame.specs.declared.FrameFault.{FrameFault}
 use Rattle.wx_native_frame.specs.declared.FrameFault.TheVariants.{BadJson}
@@ -45,7 +45,7 @@ first_of a s = by_fault a.fault refl
     by_fault None e = under_way_first (a.head ++ a.text.items) a.limit (under_way_of a s (ap is_some e))
     by_fault (Some f) e = s.first f e
 
-pub wanted_of : (a : Inside) → IsSound a → is_some a.fault ≡ false → 4 ≤ length a.head → (told a.head - length a.text.items) + length (a.head ++ a.text.items) ≡ 4 + told (a.head ++ a.text.items)
+pub wanted_of : (a : Inside) → IsSound a → is_some a.fault ≡ false → 4 ≤ length a.head → (told_length a.head - length a.text.items) + length (a.head ++ a.text.items) ≡ 4 + told_length (a.head ++ a.text.items)
 wanted_of a s e le =
     let most = s.head in
     let four : length a.head ≡ 4 = omega arith in
@@ -67,30 +67,30 @@ reading a v s is le none = (s.inside four (none_given a.fault none), four)
       | inr more ↦ let most = s.head in omega arith
     ]
 
-pub read_fault : (a : Inside) (piece x : List ℕ) (used : ℕ) (f : JsonFault) → IsSound a → IsInside a → length a.head ≡ 4 → used ≡ min (told a.head - length a.text.items) (length piece) → IsFault (a.text.items ++ take used piece) f → x ≡ take (f.place + 1) (a.text.items ++ take used piece) → StopsAt a.limit (a.head ++ a.text.items) piece (BadJson f) (a.head ++ x)
+pub read_fault : (a : Inside) (piece x : List ℕ) (used : ℕ) (f : JsonFault) → IsSound a → IsInside a → length a.head ≡ 4 → used ≡ min (told_length a.head - length a.text.items) (length piece) → IsFault (a.text.items ++ take used piece) f → x ≡ take (f.place + 1) (a.text.items ++ take used piece) → StopsAt a.limit (a.head ++ a.text.items) piece (BadJson f) (a.head ++ x)
 read_fault a piece x used f s i four is h e =
     let P : List ℕ → Type 0 = λ y. StopsAt a.limit (a.head ++ a.text.items) piece (BadJson f) (a.head ++ y) in
     subst P (sym e) (text_stops a.limit a.head a.text.items piece used f s.limit four i.within i.short is i.reads.start h)
 
-pub reads_on : (a : Inside) (piece x : List ℕ) (used : ℕ) → IsSound a → IsInside a → length a.head ≡ 4 → used ≡ min (told a.head - length a.text.items) (length piece) → x ≡ a.text.items ++ take used piece → length x < told a.head → IsPrefixOfJson x → GoesOn a.limit (a.head ++ a.text.items) piece used (a.head ++ x)
+pub reads_on : (a : Inside) (piece x : List ℕ) (used : ℕ) → IsSound a → IsInside a → length a.head ≡ 4 → used ≡ min (told_length a.head - length a.text.items) (length piece) → x ≡ a.text.items ++ take used piece → length x < told_length a.head → IsPrefixOfJson x → GoesOn a.limit (a.head ++ a.text.items) piece used (a.head ++ x)
 reads_on a piece x used s i four is e short good =
     let P : List ℕ → Type 0 = IsPrefixOfJson in
     let G : List ℕ → Type 0 = λ y. GoesOn a.limit (a.head ++ a.text.items) piece used (a.head ++ y) in
     subst G (sym e) (text_goes_on a.limit a.head a.text.items piece used s.limit four i.within is (omega (arith, ap length e)) (subst P e good))
 
 -- a text that ends here has as many bytes as its length tells
-whole_length : (a : Inside) (piece x : List ℕ) (used : ℕ) → IsInside a → used ≡ min (told a.head - length a.text.items) (length piece) → x ≡ a.text.items ++ take used piece → told a.head ≤ length x → (length x ≡ told a.head) × (used ≤ length piece)
+whole_length : (a : Inside) (piece x : List ℕ) (used : ℕ) → IsInside a → used ≡ min (told_length a.head - length a.text.items) (length piece) → x ≡ a.text.items ++ take used piece → told_length a.head ≤ length x → (length x ≡ told_length a.head) × (used ≤ length piece)
 whole_length a piece x used i is e le = let short = i.short in (omega (arith, ap length e, length-append a.text.items (take used piece), length-take used piece), omega arith)
 
-pub reads_whole : (a : Inside) (piece x t : List ℕ) (used : ℕ) → IsSound a → IsInside a → used ≡ min (told a.head - length a.text.items) (length piece) → x ≡ a.text.items ++ take used piece → told a.head ≤ length x → length_bytes (told a.head) ≡ a.head → t ≡ x → IsJsonText x → EndsFrame a.limit (a.head ++ a.text.items) piece used t
+pub reads_whole : (a : Inside) (piece x t : List ℕ) (used : ℕ) → IsSound a → IsInside a → used ≡ min (told_length a.head - length a.text.items) (length piece) → x ≡ a.text.items ++ take used piece → told_length a.head ≤ length x → length_bytes (told_length a.head) ≡ a.head → t ≡ x → IsJsonText x → EndsFrame a.limit (a.head ++ a.text.items) piece used t
 reads_whole a piece x t used s i is e le tells same j =
     let w = whole_length a piece x used i is e le in
-    let n : length t ≡ told a.head = ap length same ∙ w.0 in
+    let n : length t ≡ told_length a.head = ap length same ∙ w.0 in
     let P : List ℕ → Type 0 = IsJsonText in
     let within = i.within in
     text_ends a.limit a.head a.text.items piece t used s.limit w.1 (ap length_bytes n ∙ tells) (omega (arith, n)) (subst P (sym same) j) (same ∙ e)
 
-pub reads_cut : (a : Inside) (piece x y : List ℕ) (used : ℕ) (f : JsonFault) → IsSound a → IsInside a → length a.head ≡ 4 → used ≡ min (told a.head - length a.text.items) (length piece) → x ≡ a.text.items ++ take used piece → told a.head ≤ length x → IsPrefixOfJson x → IsEndFault x f → y ≡ x → StopsAt a.limit (a.head ++ a.text.items) piece (BadJson f) (a.head ++ y)
+pub reads_cut : (a : Inside) (piece x y : List ℕ) (used : ℕ) (f : JsonFault) → IsSound a → IsInside a → length a.head ≡ 4 → used ≡ min (told_length a.head - length a.text.items) (length piece) → x ≡ a.text.items ++ take used piece → told_length a.head ≤ length x → IsPrefixOfJson x → IsEndFault x f → y ≡ x → StopsAt a.limit (a.head ++ a.text.items) piece (BadJson f) (a.head ++ y)
 reads_cut a piece x y used f s i four is e le good h same =
     let w = whole_length a piece x used i is e le in
     let P : List ℕ → Type 0 = IsPrefixOfJson in
@@ -137,7 +137,7 @@ head_refuses a piece head used f s lt is e le h =
     subst L (sym left) (subst B (sym (bytes_of_head a s lt)) stops)
 
 -- a reader at the start of a text
-pub fresh : (b : Inside) → b.limit < 2 ^ 32 → length b.head ≡ 4 → b.fault ≡ None → told b.head ≤ b.limit → 0 < told b.head → b.text.items ≡ [] → told b.head ≤ vec_capacity b.text → Stands b.check [] → taken b.check ≡ 0 → IsSound b
+pub fresh : (b : Inside) → b.limit < 2 ^ 32 → length b.head ≡ 4 → b.fault ≡ None → told_length b.head ≤ b.limit → 0 < told_length b.head → b.text.items ≡ [] → told_length b.head ≤ vec_capacity b.text → Stands b.check [] → taken b.check ≡ 0 → IsSound b
 fresh b small four none within some empty room stands count = record {
   limit = small;
   head = omega arith;

@@ -8,7 +8,7 @@ use Rattle.wx_json.specs.Text.{IsJsonText, IsPrefixOfJson, IsFault, IsUnfinished
 use Rattle.wx_json.specs.declared.JsonFault.{JsonFault}
 use Rattle.wx_json.specs.declared.JsonKind.{JsonKind}
 use Rattle.wx_json.specs.declared.JsonKind.TheVariants.{Syntax, Utf8, TooDeep, Ends}
-use Rattle.wx_native_frame.specs.Frames.{frame, IsFrame, length_bytes, told, text_in, IsTrouble, IsTroubleFirst, IsUnderWay, EndsFrame, StopsAt}
+use Rattle.wx_native_frame.specs.Frames.{frame, IsFrame, length_bytes, told_length, text_in, IsTrouble, IsTroubleFirst, IsUnderWay, EndsFrame, StopsAt}
 use Rattle.wx_native_frame.specs.Frames.{bad_text, cut_text}
 use Rattle.wx_native_frame.specs.declared.FrameFault.{FrameFault}
 use Rattle.wx_native_frame.specs.declared.FrameFault.TheVariants.{BadJson, NoMemory}
@@ -41,7 +41,7 @@ pub record GoesOn (limit : ℕ) (bytes piece : List ℕ) (used : ℕ) (left : Li
   pub left_is : left ≡ bytes ++ piece
   pub under_way : IsUnderWay left limit
 
-pub text_goes_on : (limit : ℕ) (head u piece : List ℕ) (used : ℕ) → limit < 2 ^ 32 → length head ≡ 4 → told head ≤ limit → used ≡ min (told head - length u) (length piece) → length (u ++ take used piece) < told head → IsPrefixOfJson (u ++ take used piece) → GoesOn limit (head ++ u) piece used (head ++ (u ++ take used piece))
+pub text_goes_on : (limit : ℕ) (head u piece : List ℕ) (used : ℕ) → limit < 2 ^ 32 → length head ≡ 4 → told_length head ≤ limit → used ≡ min (told_length head - length u) (length piece) → length (u ++ take used piece) < told_length head → IsPrefixOfJson (u ++ take used piece) → GoesOn limit (head ++ u) piece used (head ++ (u ++ take used piece))
 text_goes_on limit head u piece used small four within is short good = record {
   all = all;
   left_is = sym (append_assoc head u (take used piece)) ∙ ap (λ x. (head ++ u) ++ x) (take_all used piece (omega (arith, all)));
@@ -96,7 +96,7 @@ front_is : (u piece : List ℕ) (used i : ℕ) → i ≤ used → take (length u
 front_is u piece used i le = take-append-add u (take used piece) i ∙ ap (λ x. u ++ x) (take-take i used piece le)
 
 -- before the place that stops it the text is under way
-goes_before : (limit : ℕ) (head u piece : List ℕ) (used i n : ℕ) → limit < 2 ^ 32 → length head ≡ 4 → told head ≤ limit → used ≤ length piece → i ≤ used → length u + i < told head → length u + i ≤ n → IsPrefixOfJson (take n (u ++ take used piece)) → IsUnderWay ((head ++ u) ++ take i piece) limit
+goes_before : (limit : ℕ) (head u piece : List ℕ) (used i n : ℕ) → limit < 2 ^ 32 → length head ≡ 4 → told_length head ≤ limit → used ≤ length piece → i ≤ used → length u + i < told_length head → length u + i ≤ n → IsPrefixOfJson (take n (u ++ take used piece)) → IsUnderWay ((head ++ u) ++ take i piece) limit
 goes_before limit head u piece used i n small four within le lt short before good =
     let x : List ℕ = u ++ take used piece in
     let P : List ℕ → Type 0 = IsPrefixOfJson in
@@ -104,19 +104,19 @@ goes_before limit head u piece used i n small four within le lt short before goo
     let start : IsPrefixOfJson (u ++ take i piece) = subst P (take-take (length u + i) n x before ∙ front_is u piece used i lt) (take_prefix (take n x) (length u + i) good) in
     subst W (sym (append_assoc head u (take i piece))) (text_under_way limit head (u ++ take i piece) small four (omega (arith, length-append u (take i piece), length-take i piece)) within start)
 
-text_trouble : (limit : ℕ) (head x : List ℕ) (f : JsonFault) → length head ≡ 4 → told head ≤ limit → length x ≤ told head → IsFault x f → IsTrouble (head ++ x) limit (BadJson f)
+text_trouble : (limit : ℕ) (head x : List ℕ) (f : JsonFault) → length head ≡ 4 → told_length head ≤ limit → length x ≤ told_length head → IsFault x f → IsTrouble (head ++ x) limit (BadJson f)
 text_trouble limit head x f four within le h =
-    let here : text_in (head ++ x) ≡ x = text_in-append head x four ∙ take_all (told head) x le in
+    let here : text_in (head ++ x) ≡ x = text_in-append head x four ∙ take_all (told_length head) x le in
     let P : List ℕ → Type 0 = λ y. IsFault y f in
     bad_text (omega (arith, length-append head x)) (omega (arith, told-append head x (omega arith))) (subst P (sym here) h)
 
-cut_trouble : (limit : ℕ) (head x : List ℕ) (f : JsonFault) → length head ≡ 4 → told head ≤ limit → length x ≡ told head → IsUnfinished x f → IsTrouble (head ++ x) limit (BadJson f)
+cut_trouble : (limit : ℕ) (head x : List ℕ) (f : JsonFault) → length head ≡ 4 → told_length head ≤ limit → length x ≡ told_length head → IsUnfinished x f → IsTrouble (head ++ x) limit (BadJson f)
 cut_trouble limit head x f four within all h =
-    let here : text_in (head ++ x) ≡ x = text_in-append head x four ∙ take_all (told head) x (omega arith) in
+    let here : text_in (head ++ x) ≡ x = text_in-append head x four ∙ take_all (told_length head) x (omega arith) in
     let P : List ℕ → Type 0 = λ y. IsUnfinished y f in
     cut_text (omega (arith, length-append head x)) (omega (arith, told-append head x (omega arith))) (ap length here ∙ all ∙ sym (told-append head x (omega arith))) (subst P (sym here) h)
 
-pub text_stops : (limit : ℕ) (head u piece : List ℕ) (used : ℕ) (f : JsonFault) → limit < 2 ^ 32 → length head ≡ 4 → told head ≤ limit → length u < told head → used ≡ min (told head - length u) (length piece) → IsPrefixOfJson u → IsFault (u ++ take used piece) f → StopsAt limit (head ++ u) piece (BadJson f) (head ++ take (f.place + 1) (u ++ take used piece))
+pub text_stops : (limit : ℕ) (head u piece : List ℕ) (used : ℕ) (f : JsonFault) → limit < 2 ^ 32 → length head ≡ 4 → told_length head ≤ limit → length u < told_length head → used ≡ min (told_length head - length u) (length piece) → IsPrefixOfJson u → IsFault (u ++ take used piece) f → StopsAt limit (head ++ u) piece (BadJson f) (head ++ take (f.place + 1) (u ++ take used piece))
 text_stops limit head u piece used f small four within short is good h =
     stops_at limit (head ++ u) piece (head ++ take (f.place + 1) x) upto (BadJson f) left (text_trouble limit head (take (f.place + 1) x) f four within (omega (arith, inside, length-take (f.place + 1) x)) (cut_fault x f h)) (λ i lt. goes_before limit head u piece used i f.place small four within (omega arith) (omega (arith, inside, on)) (omega (arith, inside, on)) (omega (arith, on)) h.before)
   where
@@ -144,7 +144,7 @@ end_fault_cases Syntax b f h = inl h
 end_fault_cases Utf8 b f h = inl h
 end_fault_cases TooDeep b f h = inl h
 
-pub text_cut : (limit : ℕ) (head u piece : List ℕ) (used : ℕ) (f : JsonFault) → limit < 2 ^ 32 → length head ≡ 4 → told head ≤ limit → used ≤ length piece → length (u ++ take used piece) ≡ told head → IsPrefixOfJson (u ++ take used piece) → IsEndFault (u ++ take used piece) f → StopsAt limit (head ++ u) piece (BadJson f) (head ++ (u ++ take used piece))
+pub text_cut : (limit : ℕ) (head u piece : List ℕ) (used : ℕ) (f : JsonFault) → limit < 2 ^ 32 → length head ≡ 4 → told_length head ≤ limit → used ≤ length piece → length (u ++ take used piece) ≡ told_length head → IsPrefixOfJson (u ++ take used piece) → IsEndFault (u ++ take used piece) f → StopsAt limit (head ++ u) piece (BadJson f) (head ++ (u ++ take used piece))
 text_cut limit head u piece used f small four within le all good h =
     stops_at limit (head ++ u) piece (head ++ x) used (BadJson f) (sym (append_assoc head u (take used piece))) trouble (λ i lt. goes_before limit head u piece used i (length x) small four within le (omega arith) (omega (arith, long)) (omega (arith, long)) (let P : List ℕ → Type 0 = IsPrefixOfJson in subst P (sym (take_all (length x) x (omega arith))) good))
   where

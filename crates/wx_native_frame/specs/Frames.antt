@@ -11,8 +11,8 @@ unfoldable pub length_bytes : ℕ → List ℕ
 length_bytes n = little_bytes 4 n
 
 -- the number that the first four bytes tell
-unfoldable pub told : List ℕ → ℕ
-told r = little_number 4 r
+unfoldable pub told_length : List ℕ → ℕ
+told_length r = little_number 4 r
 
 -- the frame of a text
 abbrev pub frame : List ℕ → List ℕ
@@ -26,13 +26,13 @@ pub record IsFrame (limit : ℕ) (bytes t : List ℕ) : Type 0 where
 
 -- the bytes behind the length, at most as many as it tells
 abbrev pub text_in : List ℕ → List ℕ
-text_in r = take (told r) (drop 4 r)
+text_in r = take (told_length r) (drop 4 r)
 
 -- What is wrong with bytes that begin where a frame does. With fewer than four nothing is wrong.
 pub data IsTrouble (r : List ℕ) (limit : ℕ) : FrameFault → Type 0 where
-  too_long : {n : ℕ} → 4 ≤ length r → n ≡ told r → limit < n → IsTrouble r limit (TooLong n)
-  bad_text : {f : JsonFault} → 4 ≤ length r → told r ≤ limit → IsFault (text_in r) f → IsTrouble r limit (BadJson f)
-  cut_text : {f : JsonFault} → 4 ≤ length r → told r ≤ limit → length (text_in r) ≡ told r → IsUnfinished (text_in r) f → IsTrouble r limit (BadJson f)
+  too_long : {n : ℕ} → 4 ≤ length r → n ≡ told_length r → limit < n → IsTrouble r limit (TooLong n)
+  bad_text : {f : JsonFault} → 4 ≤ length r → told_length r ≤ limit → IsFault (text_in r) f → IsTrouble r limit (BadJson f)
+  cut_text : {f : JsonFault} → 4 ≤ length r → told_length r ≤ limit → length (text_in r) ≡ told_length r → IsUnfinished (text_in r) f → IsTrouble r limit (BadJson f)
 
 -- Nothing is wrong, and no whole frame stands in front.
 pub record IsUnderWay (r : List ℕ) (limit : ℕ) : Type 0 where

@@ -3,7 +3,7 @@ use Rattle.std.specs.Prelude.{◌≡◌, ℕ, ◌^◌, ◌<◌, ◌≤◌, List,
 use Rattle.std.specs.Vec.{vec_capacity}
 use Rattle.wx_json.specs.Check.{Progress, Stands, taken}
 use Rattle.wx_json.specs.Text.{IsPrefixOfJson}
-use Rattle.wx_native_frame.specs.Frames.{Unfinished, IsTrouble, IsTroubleFirst, told}
+use Rattle.wx_native_frame.specs.Frames.{Unfinished, IsTrouble, IsTroubleFirst, told_length}
 use Rattle.wx_native_frame.specs.declared.FrameFault.{FrameFault}
 use Rattle.wx_native_frame.specs.declared.frame_reader.FrameReader.TheInside.{Inside}
 
@@ -23,9 +23,9 @@ pub record Reads (check : Progress) (text : List ℕ) : Type 0 where
 
 -- a text is being read
 pub record IsInside (a : Inside) : Type 0 where
-  pub within : told a.head ≤ a.limit
-  pub short : length a.text.items < told a.head
-  pub room : told a.head ≤ vec_capacity a.text
+  pub within : told_length a.head ≤ a.limit
+  pub short : length a.text.items < told_length a.head
+  pub room : told_length a.head ≤ vec_capacity a.text
   pub reads : Reads a.check a.text.items
 
 pub record IsSound (a : Inside) : Type 0 where

@@ -1,5 +1,5 @@
 ghost use Rattle.std.specs.Prelude.{◌≡◌, ℕ, ◌+◌, ◌<◌, ◌≤◌, ◌^◌, List, [], ◌++◌, length, take, OnOk, IfErr, IfOk, IfSome, IfNone, MatchOption, MatchResult};
-ghost use Rattle.wx_native_frame.specs.Frames.{told, frame, IsTrouble, IsTroubleFirst, IsUnderWay, EndsFrame, StopsAt};
+ghost use Rattle.wx_native_frame.specs.Frames.{told_length, frame, IsTrouble, IsTroubleFirst, IsUnderWay, EndsFrame, StopsAt};
 ghost use Rattle.wx_native_frame.specs.declared.FrameFault.{FrameFault};
 
 use crate::head::Head;
@@ -70,7 +70,7 @@ impl FrameReader {
     pub fn wanted(&self) -> u32
         ensures head { length self.now.bytes < 4 → result + length self.now.bytes ≡ 4 }
         ensures text { 4 ≤ length self.now.bytes → IsUnderWay self.now.bytes self.now.limit →
-            result + length self.now.bytes ≡ 4 + told self.now.bytes }
+            result + length self.now.bytes ≡ 4 + told_length self.now.bytes }
         ensures fault { (f : FrameFault) → IsTrouble self.now.bytes self.now.limit f → result ≡ 0 }
         ensures zero { result ≡ 0 → (f : FrameFault) × IsTrouble self.now.bytes self.now.limit f }
         ensures under_way { 0 < result → IsUnderWay self.now.bytes self.now.limit }
@@ -220,7 +220,7 @@ fn framed(bytes: &[u8], limit: u32) -> Option<&[u8]>
 /// What is wrong with a length: it is over the limit, or no text is so short.
 fn length_fault(len: u32, limit: u32) -> Option<FrameFault>
     ensures { MatchOption result ((0 < len) × (len ≤ limit))
-        (λ fault. (bytes : List ℕ) → 4 ≤ length bytes → told bytes ≡ len → IsTrouble bytes limit fault) }
+        (λ fault. (bytes : List ℕ) → 4 ≤ length bytes → told_length bytes ≡ len → IsTrouble bytes limit fault) }
 {
     if len > limit {
         Some(FrameFault::TooLong { len })

@@ -1,5 +1,5 @@
 ghost use Rattle.std.specs.Prelude.{◌≡◌, ℕ, ◌+◌, ◌<◌, ◌≤◌, ◌++◌, [], length, take, slice_index};
-ghost use Rattle.wx_native_frame.specs.Frames.{told, length_bytes};
+ghost use Rattle.wx_native_frame.specs.Frames.{told_length, length_bytes};
 
 use byteorder::{ByteOrder, LittleEndian};
 use std::marker::Model;
@@ -52,7 +52,7 @@ impl Head {
     /// The length that all four bytes tell.
     pub(crate) fn length(&self) -> u32
         requires { length self.now ≡ 4 }
-        ensures told { result ≡ told self.now }
+        ensures told { result ≡ told_length self.now }
         ensures bytes { length_bytes result ≡ self.now }
     {
         LittleEndian::read_u32(&self.bytes)

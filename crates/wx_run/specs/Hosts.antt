@@ -8,7 +8,7 @@ use Rattle.wx_machine.specs.Hosts.{hosts}
 use Rattle.wx_machine.specs.Texts.{has_ended}
 use Rattle.wx_host_launch.specs.Records.{HostRecord, Writing, StarterState}
 use Rattle.wx_host_slot.specs.Journals.{entries_of}
-use Rattle.wx_host_slot.specs.Meets.{Meets}
+use Rattle.wx_host_slot.specs.Meets.{RecordMeets}
 use Rattle.wx_host_slot.specs.Slots.{host_limit}
 use Rattle.wx_host_slot.specs.Turns.{HostTurn}
 
@@ -59,7 +59,7 @@ AreHostsWithin past = (h : HostNo) → entries_of h past ≤ host_limit + 2
 -- each of these records, of hosts numbered from n, meets the journal
 abbrev pub RecordsMeet : Type 0 → Option Writing → WorldLists → List Entry → ℕ → List HostRecord → Type 0
 RecordsMeet spent writing world past n [] = Unit {0}
-RecordsMeet spent writing world past n (r ∷ records) = Meets spent writing world past (host_numbered n) r × RecordsMeet spent writing world past (n + 1) records
+RecordsMeet spent writing world past n (r ∷ records) = RecordMeets spent writing world past (host_numbered n) r × RecordsMeet spent writing world past (n + 1) records
 
 -- The starter took over one record for each host of the journal, in rising number, and each meets the journal.
 pub record HaveRecords (spent : Type 0) (world : WorldLists) (past : List Entry) (old new : StarterState) : Type 0 where

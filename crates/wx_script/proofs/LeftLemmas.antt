@@ -25,7 +25,7 @@ use Rattle.wx_script.specs.declared.script.Heard.{Heard}
 use Rattle.wx_script.specs.declared.script.Heard.TheVariants as heard
 use Rattle.wx_script.specs.Places.{Place, outside, within, left, is_left, unbegun, echoing, answering, Beginning, calls, awaits, answers, Variables, begins_with, unskipped, asks_first, next_or_end, next_from, asks_answer, next_at, next_of, place_of, place_behind, behind_first, behind_act, behind_await, behind_answer, is_wanted, set_by, event_in}
 use Rattle.wx_script.specs.Carries.{MayCome, AskedOf, FollowsScript, IsAskedOf}
-use Rattle.wx_script.specs.Ends.{is_end, has_ended}
+use Rattle.wx_script.specs.Ends.{is_end, script_has_ended}
 use Rattle.wx_script.proofs.ByLemmas.{is_by-own}
 
 unended_answer : (came : Heard) (text : Option (List ℕ)) → is_end (asks_answer came text) ≡ false
@@ -222,5 +222,5 @@ agrees world scripts script c (e ∷ past) legal follows at =
     ] refl
 
 pub ended_left : (world : WorldLists) (scripts : List (List Command)) (script : List Command) (c : ContextNo) (past : List Entry)
-    → EachAfter (FollowsMachine world) past → EachAfter (FollowsScript scripts) past → slice_get scripts c.0 ≡ Some script → has_ended script c past ≡ has_left past c
+    → EachAfter (FollowsMachine world) past → EachAfter (FollowsScript scripts) past → slice_get scripts c.0 ≡ Some script → script_has_ended script c past ≡ has_left past c
 ended_left world scripts script c past legal follows at = end_is_left past (place_of script c past) ∙ (agrees world scripts script c past legal follows at).same

@@ -1,4 +1,4 @@
--- How a run ends: done, stalled or spent. Every list of entries has the newest first.
+-- How the scripts of a run end: done, stalled or spent. Every list of entries has the newest first.
 use Rattle.std.specs.Prelude.{◌≡◌, ℕ, ◌+◌, Bool, true, false, ◌&&◌, not, List, [], ◌∷◌, slice_get, Option, Some, None, nat_le, cond, if◌then◌else◌}
 use Rattle.wx_id.specs.declared.numbers.ContextNo.{ContextNo}
 use Rattle.wx_machine.specs.declared.entries.Entry.{Entry}
@@ -27,12 +27,12 @@ abbrev pub numbered : ℕ → ContextNo
 numbered n = record { 0 = n }
 
 -- the script of context c has ended
-abbrev pub has_ended : List Command → ContextNo → List Entry → Bool
-has_ended script c past = is_end (next_of script c past)
+abbrev pub script_has_ended : List Command → ContextNo → List Entry → Bool
+script_has_ended script c past = is_end (next_of script c past)
 
 -- every script has ended
 abbrev pub IsDone : List (List Command) → List Entry → Type 0
-IsDone scripts past = (c : ℕ) (script : List Command) → slice_get scripts c ≡ Some script → has_ended script (numbered c) past ≡ true
+IsDone scripts past = (c : ℕ) (script : List Command) → slice_get scripts c ≡ Some script → script_has_ended script (numbered c) past ≡ true
 
 -- no endpoint can do anything
 abbrev pub AreIdle : List (List Command) → List Entry → Type 0
@@ -44,7 +44,7 @@ entry_limit = 65536
 
 -- context c has made as many entries as it may, and its script has not ended
 abbrev pub is_spent : List Command → ContextNo → List Entry → Bool
-is_spent script c past = nat_le entry_limit (entries_by c past) && not (has_ended script c past)
+is_spent script c past = nat_le entry_limit (entries_by c past) && not (script_has_ended script c past)
 
 -- the first of these endpoints, numbered from n, that is spent
 abbrev pub spent_from : ℕ → List (List Command) → List Entry → Option ℕ

@@ -8,11 +8,11 @@ use Rattle.wx_machine.specs.Answers.{FollowsMachine}
 use Rattle.wx_machine.specs.Each.{EachAfter}
 use Rattle.wx_script.specs.declared.script.Command.{Command}
 use Rattle.wx_script.specs.Carries.{FollowsScript}
-use Rattle.wx_script.specs.Ends.{has_ended}
+use Rattle.wx_script.specs.Ends.{script_has_ended}
 
 -- behind legal entries that follow the scripts
 abbrev pub EndsByLeaving : Type 0
 EndsByLeaving =
     (world : WorldLists) (scripts : List (List Command)) (script : List Command) (c : ContextNo) (past : List Entry)
     → EachAfter (FollowsMachine world) past → EachAfter (FollowsScript scripts) past → slice_get scripts c.0 ≡ Some script
-    → has_ended script c past ≡ has_left past c
+    → script_has_ended script c past ≡ has_left past c

@@ -1,5 +1,5 @@
 use Rattle.std.proofs.Common.{◌≡◌, ◌+◌, ◌-◌, ◌∙◌, sym, subst, arith, length}
-use Rattle.wx_native_frame.specs.Frames.{Unfinished, told, IsTrouble, IsTroubleFirst, IsUnderWay}
+use Rattle.wx_native_frame.specs.Frames.{Unfinished, told_length, IsTrouble, IsTroubleFirst, IsUnderWay}
 use Rattle.wx_native_frame.specs.declared.FrameFault.{FrameFault}
 use Rattle.wx_native_frame.proofs.ReaderLaws.{trouble_of, under_way_of, first_of, wanted_of}
 use Rattle.wx_native_frame.proofs.frame_reader.FrameReader.wanted.Goals as goal
@@ -23,7 +23,7 @@ returns-then-have-lt4-clause-under_way c = λ more.
 pub returns-clause-text : goal.returns-clause-text
 returns-clause-text c = λ le u.
     let a = c.self.inside in
-    let P : Unfinished → Type 0 = λ v. (told c.self.inside.head - length c.self.inside.text.items) + length v.bytes ≡ 4 + told v.bytes in
+    let P : Unfinished → Type 0 = λ v. (told_length c.self.inside.head - length c.self.inside.text.items) + length v.bytes ≡ 4 + told_length v.bytes in
     let four = c.if-have-lt4.false in
     let counted = c.len-have.ensures.len in
     let e = subst P c.self.view_is (wanted_of c.self.inside c.self.invariant (sym c.is_some.ensures ∙ c.if-is_some.false) (omega (arith, four, counted))) in
