@@ -1,7 +1,7 @@
 // A helper extension with its native program, through the top call: every sort of context, and a host in memory.
-use crate::host_tests::{ROOM, child_of, is_of_program};
+use crate::host_tests::{ROOM, child_of, has_one_record};
 use crate::manifest_tests::shelf_of;
-use crate::tests::{AMPLE, RUN, answer_over, sink_of};
+use crate::tests::{AMPLE_ROOM, RUN, gives_over};
 use std::alloc::{AllocError, Global};
 use std::test::Fail;
 use wx_host_launch::MemoryStarter;
@@ -95,53 +95,38 @@ c0 leave -> done
 /// The text of the ping behind its length.
 const FRAME: &[u8] = b"\x0d\0\0\0{\"op\":\"ping\"}";
 
-/// What a run of the scene answers, and what it writes.
-fn run_over(
+/// Whether a run of the scene is done and leaves these entries behind the messages.
+fn leaves(
     alloc: Global,
     starter: &mut MemoryStarter<'_>,
-) -> Result<(Status, Vec<u8>, u64), AllocError> {
+    entries: &str,
+) -> Result<bool, AllocError> {
     let files = [
         ("s", SCENE),
         ("helper.json", HELPER),
         ("com.example.echo.json", ECHO),
     ];
+    let journal = format!(in alloc; "{OPENING}{MESSAGES}{entries}")?;
     let mut shelf = shelf_of(alloc, &files)?;
-    let mut out = sink_of(alloc, AMPLE);
-    let mut err = sink_of(alloc, AMPLE);
-    let status = answer_over(alloc, &RUN, &mut shelf, starter, &mut out, &mut err)?;
-    Ok((status, out.bytes, err.writes))
+    let expected = (Status::Done, journal.as_str(), "");
+    gives_over(alloc, &RUN, &mut shelf, starter, AMPLE_ROOM, expected)
 }
 
 /// The child is started with the one argument, is sent the ping, and sends it back.
 #[test]
 fn helper_pings_its_program(rt: HostRuntime) -> Result<(), Fail> {
     let alloc = rt.alloc();
-    let journal = format!(in alloc; "{OPENING}{MESSAGES}{PING}")?;
     let children = vec![in alloc; child_of(alloc, "/opt/example/echo", FRAME, &[])?]?;
     let mut starter = MemoryStarter::new(alloc, &children, ROOM);
-    let (status, written, lines_written) = run_over(alloc, &mut starter)?;
-    assert_eq!(rt; status, Status::Done);
-    assert_eq!(rt; written.as_slice(), journal.as_bytes());
-    assert_eq!(rt; lines_written, 0);
-    let [record] = starter.records() else {
-        panic!(rt; "not one record");
-    };
-    assert!(rt; is_of_program(record, "/opt/example/echo"));
-    assert_eq!(rt; record.faults(), 0);
-    assert_eq!(rt; record.read, FRAME);
-    assert_eq!(rt; record.sent.as_slice(), FRAME);
+    assert!(rt; leaves(alloc, &mut starter, PING)?);
+    assert!(rt; has_one_record(&starter, "/opt/example/echo", 0, (FRAME, FRAME)));
     Ok(())
 }
 
 /// The messages between contexts are the same where no program can be started.
 #[test]
 fn helper_without_its_program(rt: HostRuntime) -> Result<(), Fail> {
-    let alloc = rt.alloc();
-    let journal = format!(in alloc; "{OPENING}{MESSAGES}{NO_PING}")?;
-    let mut starter = MemoryStarter::new(alloc, &[], 0);
-    let (status, written, lines_written) = run_over(alloc, &mut starter)?;
-    assert_eq!(rt; status, Status::Done);
-    assert_eq!(rt; written.as_slice(), journal.as_bytes());
-    assert_eq!(rt; lines_written, 0);
+    let mut starter = MemoryStarter::new(rt.alloc(), &[], 0);
+    assert!(rt; leaves(rt.alloc(), &mut starter, NO_PING)?);
     Ok(())
 }

@@ -1,6 +1,6 @@
 // Scenes that start native hosts, through the top call, over children in memory.
 use crate::manifest_tests::{EXTENSION, HOST, shelf_of};
-use crate::tests::{AMPLE, RUN, answer_over, sink_of};
+use crate::tests::{AMPLE_ROOM, RUN, gives_over};
 use std::alloc::{AllocError, Global};
 use std::test::Fail;
 use wx_host_launch::{MemoryChild, MemoryRecord, MemoryStarter};
@@ -38,7 +38,7 @@ pub fn child_of(
 }
 
 /// Whether the record is that of the program at this path, with the one argument.
-pub fn is_of_program(record: &MemoryRecord<'_>, path: &str) -> bool {
+fn is_of_program(record: &MemoryRecord<'_>, path: &str) -> bool {
     match &record.program {
         Some(program) => match program.arguments.as_slice() {
             [argument] => program.path.as_str() == path && argument.as_str() == ORIGIN,
@@ -48,23 +48,44 @@ pub fn is_of_program(record: &MemoryRecord<'_>, path: &str) -> bool {
     }
 }
 
-/// What a run of the scene with these lines behind its extension and its host answers, and what it writes.
-fn run_of(
+/// Whether the starter has one record, of the program at this path, with so many failed starts and no other fault. The
+/// bytes are those that were read of it, and those that it was sent.
+pub fn has_one_record(
+    starter: &MemoryStarter<'_>,
+    path: &str,
+    failed_starts: u64,
+    bytes: (&[u8], &[u8]),
+) -> bool {
+    match starter.records() {
+        [record] => {
+            is_of_program(record, path)
+                && record.failed_starts == failed_starts
+                && record.faults() == failed_starts
+                && record.read == bytes.0
+                && record.sent.as_slice() == bytes.1
+        }
+        _ => false,
+    }
+}
+
+/// Whether a run of the scene with these lines behind its extension and its host is done, and leaves these entries behind
+/// the first.
+fn leaves(
     alloc: Global,
     lines: &str,
     starter: &mut MemoryStarter<'_>,
-) -> Result<(Status, Vec<u8>, u64), AllocError> {
+    entries: &str,
+) -> Result<bool, AllocError> {
     let scene = format!(in alloc; "{HEAD}{lines}")?;
+    let journal = format!(in alloc; "{FIRST_ENTRY}{entries}")?;
     let files = [
         ("s", scene.as_str()),
         ("x.json", EXTENSION),
         ("e.json", HOST),
     ];
     let mut shelf = shelf_of(alloc, &files)?;
-    let mut out = sink_of(alloc, AMPLE);
-    let mut err = sink_of(alloc, AMPLE);
-    let status = answer_over(alloc, &RUN, &mut shelf, starter, &mut out, &mut err)?;
-    Ok((status, out.bytes, err.writes))
+    let expected = (Status::Done, journal.as_str(), "");
+    gives_over(alloc, &RUN, &mut shelf, starter, AMPLE_ROOM, expected)
 }
 
 /// A scene's lines behind its extension and its host, and the journal of its run behind the first entry, where no program
@@ -127,20 +148,11 @@ fn failed_starts_end_at_once(rt: HostRuntime) -> Result<(), Fail> {
     let failing = vec![in alloc; child_of(alloc, "/bin/echo", b"", &[0])?]?;
     let missing = vec![in alloc; child_of(alloc, "/bin/cat", b"", &[])?]?;
     for (lines, entries) in NOT_STARTED.iter() {
-        let journal = format!(in alloc; "{FIRST_ENTRY}{entries}")?;
         for children in [&failing, &missing] {
             let mut starter = MemoryStarter::new(alloc, children, ROOM);
-            let (status, written, lines_written) = run_of(alloc, lines, &mut starter)?;
-            assert_eq!(rt; status, Status::Done);
-            assert_eq!(rt; written.as_slice(), journal.as_bytes());
-            assert_eq!(rt; lines_written, 0);
-            let [record] = starter.records() else {
-                panic!(rt; "not one record");
-            };
-            assert!(rt; is_of_program(record, "/bin/echo"));
-            assert_eq!(rt; record.failed_starts, 1);
-            assert_eq!(rt; record.read, b"".as_slice());
-            assert_eq!(rt; record.sent.as_slice(), b"".as_slice());
+            let is_so = leaves(alloc, lines, &mut starter, entries)?
+                && has_one_record(&starter, "/bin/echo", 1, (b"", b""));
+            assert!(rt; is_so, "{lines}");
         }
     }
     Ok(())
@@ -202,20 +214,11 @@ h0 host_ended exited -> done
 fn children_are_heard(rt: HostRuntime) -> Result<(), Fail> {
     let alloc = rt.alloc();
     for (lines, writes, entries, sent) in STARTED.iter() {
-        let journal = format!(in alloc; "{FIRST_ENTRY}{entries}")?;
         let children = vec![in alloc; child_of(alloc, "/bin/echo", writes, &[])?]?;
         let mut starter = MemoryStarter::new(alloc, &children, ROOM);
-        let (status, written, lines_written) = run_of(alloc, lines, &mut starter)?;
-        assert_eq!(rt; status, Status::Done);
-        assert_eq!(rt; written.as_slice(), journal.as_bytes());
-        assert_eq!(rt; lines_written, 0);
-        let [record] = starter.records() else {
-            panic!(rt; "not one record");
-        };
-        assert!(rt; is_of_program(record, "/bin/echo"));
-        assert_eq!(rt; record.faults(), 0);
-        assert_eq!(rt; record.read, *writes);
-        assert_eq!(rt; record.sent.as_slice(), *sent);
+        let is_so = leaves(alloc, lines, &mut starter, entries)?
+            && has_one_record(&starter, "/bin/echo", 0, (writes, sent));
+        assert!(rt; is_so, "{lines}");
     }
     Ok(())
 }

@@ -1,5 +1,5 @@
 // Scenes that name manifests, through the top call.
-use crate::tests::{AMPLE, RUN, answer, sink_of};
+use crate::tests::{AMPLE_ROOM, RUN, gives};
 use std::alloc::{AllocError, Global};
 use std::test::Fail;
 use wx_host_manifest::{HostFault, HostKey};
@@ -179,34 +179,24 @@ fn faulty_manifests(rt: HostRuntime) -> Result<(), Fail> {
     let alloc = rt.alloc();
     for (text, fault, told) in EXTENSIONS {
         let mut shelf = shelf_of(alloc, &[("s", SCENE), ("x.json", text), ("m/e.json", HOST)])?;
-        let mut out = sink_of(alloc, AMPLE);
-        let mut err = sink_of(alloc, AMPLE);
         let kind = FileKind::Extension(fault);
-        let expected = Status::ManifestRefused { file: 0, kind };
-        assert_eq!(rt;
-            answer(alloc, &RUN, &mut shelf, &mut out, &mut err)?,
-            expected
-        );
         let line = format!(in alloc; "wx: manifest refused: x.json: {told}\n")?;
-        assert_eq!(rt; str::from_utf8(&err.bytes), Ok(line.as_str()));
-        assert_eq!(rt; out.writes, 0);
+        let expected = (Status::ManifestRefused { file: 0, kind }, "", line.as_str());
+        assert!(rt;
+            gives(alloc, &RUN, &mut shelf, AMPLE_ROOM, expected)?,
+            "{told}"
+        );
     }
     for (text, fault, told) in HOSTS {
-        let mut shelf = shelf_of(
-            alloc,
-            &[("s", SCENE), ("x.json", EXTENSION), ("m/e.json", text)],
-        )?;
-        let mut out = sink_of(alloc, AMPLE);
-        let mut err = sink_of(alloc, AMPLE);
+        let files = [("s", SCENE), ("x.json", EXTENSION), ("m/e.json", text)];
+        let mut shelf = shelf_of(alloc, &files)?;
         let kind = FileKind::Host(fault);
-        let expected = Status::ManifestRefused { file: 1, kind };
-        assert_eq!(rt;
-            answer(alloc, &RUN, &mut shelf, &mut out, &mut err)?,
-            expected
-        );
         let line = format!(in alloc; "wx: manifest refused: m/e.json: {told}\n")?;
-        assert_eq!(rt; str::from_utf8(&err.bytes), Ok(line.as_str()));
-        assert_eq!(rt; out.writes, 0);
+        let expected = (Status::ManifestRefused { file: 1, kind }, "", line.as_str());
+        assert!(rt;
+            gives(alloc, &RUN, &mut shelf, AMPLE_ROOM, expected)?,
+            "{told}"
+        );
     }
     Ok(())
 }
@@ -217,41 +207,64 @@ fn first_manifest_told(rt: HostRuntime) -> Result<(), Fail> {
     let alloc = rt.alloc();
     let (x, e) = (Some(EXTENSION), Some(HOST));
     let (bad_x, bad_e) = (Some("[]"), Some("{"));
-    let no_x = "wx: manifest refused: x.json: missing\n";
-    let no_e = "wx: manifest refused: m/e.json: missing\n";
-    let not_x = "wx: manifest refused: x.json: not_json\n";
-    let not_e = "wx: manifest refused: m/e.json: not_json\n";
-    let read_x = "wx: read fault: x.json\n";
-    let read_e = "wx: read fault: m/e.json\n";
-    // The scene, its two manifests, the read that fails; the number of the status, the line, and how many reads were made.
-    let cases: [(&str, Option<&str>, Option<&str>, Option<u64>, u8, &str, u64); 12] = [
-        (SCENE, x, e, None, 0, "", 3),
-        (HOST_FIRST, x, e, None, 0, "", 3),
-        (SCENE, None, None, None, 5, no_x, 2),
-        (SCENE, x, None, None, 5, no_e, 3),
-        (SCENE, bad_x, bad_e, None, 5, not_x, 2),
-        (HOST_FIRST, bad_x, bad_e, None, 5, not_e, 2),
-        (SCENE, x, e, Some(0), 3, "wx: read fault: s\n", 1),
-        (SCENE, x, e, Some(1), 3, read_x, 2),
-        (SCENE, x, e, Some(2), 3, read_e, 3),
-        (HOST_FIRST, x, e, Some(1), 3, read_e, 2),
-        (SCENE, bad_x, e, Some(2), 5, not_x, 2),
-        (SCENE, bad_x, bad_e, Some(1), 3, read_x, 2),
+    let refused = |file: u64, kind: FileKind| Status::ManifestRefused { file, kind };
+    let not_json = FileKind::Extension(ManifestFault::NotJson);
+    let host_not_json = FileKind::Host(HostFault::NotJson);
+    let done = (Status::Done, "wx journal 1 chrome\n", "");
+    let no_x = (
+        refused(0, FileKind::Missing),
+        "",
+        "wx: manifest refused: x.json: missing\n",
+    );
+    let no_e = (
+        refused(1, FileKind::Missing),
+        "",
+        "wx: manifest refused: m/e.json: missing\n",
+    );
+    let not_x = (
+        refused(0, not_json),
+        "",
+        "wx: manifest refused: x.json: not_json\n",
+    );
+    let not_e = (
+        refused(0, host_not_json),
+        "",
+        "wx: manifest refused: m/e.json: not_json\n",
+    );
+    let read_s = (Status::ReadFault, "", "wx: read fault: s\n");
+    let read_x = (Status::ReadFault, "", "wx: read fault: x.json\n");
+    let read_e = (Status::ReadFault, "", "wx: read fault: m/e.json\n");
+    // The scene, its two manifests, the read that fails; what the call gives, and how many reads were made.
+    let cases: [(
+        &str,
+        Option<&str>,
+        Option<&str>,
+        Option<u64>,
+        (Status, &str, &str),
+        u64,
+    ); 12] = [
+        (SCENE, x, e, None, done, 3),
+        (HOST_FIRST, x, e, None, done, 3),
+        (SCENE, None, None, None, no_x, 2),
+        (SCENE, x, None, None, no_e, 3),
+        (SCENE, bad_x, bad_e, None, not_x, 2),
+        (HOST_FIRST, bad_x, bad_e, None, not_e, 2),
+        (SCENE, x, e, Some(0), read_s, 1),
+        (SCENE, x, e, Some(1), read_x, 2),
+        (SCENE, x, e, Some(2), read_e, 3),
+        (HOST_FIRST, x, e, Some(1), read_e, 2),
+        (SCENE, bad_x, e, Some(2), not_x, 2),
+        (SCENE, bad_x, bad_e, Some(1), read_x, 2),
     ];
-    for (scene, extension, host, fails, number, line, reads) in cases {
+    for (scene, extension, host, fails, expected, reads) in cases {
         let mut shelf = shelf_of(alloc, &[("s", scene)])?;
         put(alloc, &mut shelf, "x.json", extension)?;
         put(alloc, &mut shelf, "m/e.json", host)?;
         if let Some(read) = fails {
             shelf.fails_at.push(read)?;
         }
-        let mut out = sink_of(alloc, AMPLE);
-        let mut err = sink_of(alloc, AMPLE);
-        let status = answer(alloc, &RUN, &mut shelf, &mut out, &mut err)?;
-        assert_eq!(rt; status.number(), number);
-        assert_eq!(rt; str::from_utf8(&err.bytes), Ok(line));
-        assert_eq!(rt; out.writes == 0, number != 0);
-        assert_eq!(rt; shelf.reads, reads);
+        let as_expected = gives(alloc, &RUN, &mut shelf, AMPLE_ROOM, expected)?;
+        assert!(rt; as_expected && shelf.reads == reads, "{expected:?}");
     }
     Ok(())
 }
@@ -321,20 +334,14 @@ const ECHO: &str =
 #[test]
 fn manifests_decide(rt: HostRuntime) -> Result<(), Fail> {
     let alloc = rt.alloc();
-    let mut shelf = shelf_of(
-        alloc,
-        &[
-            ("s", GATED),
-            ("scenes/helper.json", HELPER),
-            ("scenes/com.example.echo.json", ECHO),
-        ],
-    )?;
-    let mut out = sink_of(alloc, AMPLE);
-    let mut err = sink_of(alloc, AMPLE);
-    let status = answer(alloc, &RUN, &mut shelf, &mut out, &mut err)?;
-    assert_eq!(rt; status, Status::Done);
-    assert_eq!(rt; str::from_utf8(&out.bytes), Ok(GATED_JOURNAL));
-    assert_eq!(rt; err.writes, 0);
+    let files = [
+        ("s", GATED),
+        ("scenes/helper.json", HELPER),
+        ("scenes/com.example.echo.json", ECHO),
+    ];
+    let mut shelf = shelf_of(alloc, &files)?;
+    let expected = (Status::Done, GATED_JOURNAL, "");
+    assert!(rt; gives(alloc, &RUN, &mut shelf, AMPLE_ROOM, expected)?);
     Ok(())
 }
 
@@ -347,13 +354,11 @@ fn large_manifest(rt: HostRuntime) -> Result<(), Fail> {
         name: String::from_str(alloc, "x.json")?,
         bytes: vec![in alloc; 32u8; 67108865]?,
     })?;
-    let mut out = sink_of(alloc, AMPLE);
-    let mut err = sink_of(alloc, AMPLE);
-    let status = answer(alloc, &RUN, &mut shelf, &mut out, &mut err)?;
-    assert_eq!(rt; status.number(), 5);
-    assert_eq!(rt;
-        err.bytes.as_slice(),
-        b"wx: manifest refused: x.json: large\n".as_slice()
-    );
+    let large = Status::ManifestRefused {
+        file: 0,
+        kind: FileKind::Large,
+    };
+    let expected = (large, "", "wx: manifest refused: x.json: large\n");
+    assert!(rt; gives(alloc, &RUN, &mut shelf, AMPLE_ROOM, expected)?);
     Ok(())
 }

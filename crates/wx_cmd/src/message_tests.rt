@@ -1,6 +1,6 @@
 //! Scenes with requests, tabs and web pages, and the journals that the rules of the broker and the order of rounds give.
 //! In these texts A and B stand for thirty-two letters `a` and `b`.
-use crate::tests::{AMPLE, RUN, answer, shelf_of, sink_of};
+use crate::tests::{RUN, gives_of};
 use std::alloc::{AllocError, Global};
 use std::test::Fail;
 use wx_status::Status;
@@ -112,12 +112,13 @@ c0 leave -> done
 /// Whether the scene runs to its end and leaves this journal.
 fn leaves(alloc: Global, scene: &str, journal: &str) -> Result<bool, AllocError> {
     let scene = with_ids(alloc, scene)?;
-    let mut shelf = shelf_of(alloc, Vec::from_slice(alloc, scene.as_bytes())?)?;
-    let mut out = sink_of(alloc, AMPLE);
-    let mut err = sink_of(alloc, AMPLE);
-    let status = answer(alloc, &RUN, &mut shelf, &mut out, &mut err)?;
     let journal = with_ids(alloc, journal)?;
-    Ok(status == Status::Done && err.writes == 0 && out.bytes.as_slice() == journal.as_bytes())
+    gives_of(
+        alloc,
+        &RUN,
+        scene.as_bytes(),
+        (Status::Done, journal.as_str(), ""),
+    )
 }
 
 #[test]

@@ -12,7 +12,9 @@ use wx_script::{Scene, SceneKind};
 use wx_status::{InputKind, Status};
 
 /// Room for every text of these tests.
-pub(crate) const AMPLE: usize = 1000000;
+const AMPLE: usize = 1000000;
+
+pub(crate) const AMPLE_ROOM: (usize, usize) = (AMPLE, AMPLE);
 
 /// A shelf with these bytes under the name `s`.
 pub(crate) fn shelf_of(alloc: Global, bytes: Vec<u8>) -> Result<MemoryShelf, AllocError> {
@@ -30,7 +32,7 @@ pub(crate) fn shelf_of(alloc: Global, bytes: Vec<u8>) -> Result<MemoryShelf, All
 }
 
 /// An empty sink with so much room.
-pub(crate) fn sink_of(alloc: Global, room: usize) -> MemorySink {
+fn sink_of(alloc: Global, room: usize) -> MemorySink {
     MemorySink {
         bytes: Vec::new(alloc),
         room,
@@ -41,7 +43,7 @@ pub(crate) fn sink_of(alloc: Global, room: usize) -> MemorySink {
 }
 
 /// What a call with these words answers, over this starter.
-pub(crate) fn answer_over<P: Starter>(
+fn answer_over<P: Starter>(
     alloc: Global,
     words: &[&str],
     shelf: &mut MemoryShelf,
@@ -56,22 +58,55 @@ pub(crate) fn answer_over<P: Starter>(
     Ok(wx(alloc, &owned, shelf, starter, out, err))
 }
 
-/// What a call with these words answers where no program can be started.
-pub(crate) fn answer(
+/// Whether a call with these words over this starter answers this status and writes these texts on its two sinks, each
+/// of which has room for so many bytes.
+pub(crate) fn gives_over<P: Starter>(
     alloc: Global,
     words: &[&str],
     shelf: &mut MemoryShelf,
-    out: &mut MemorySink,
-    err: &mut MemorySink,
-) -> Result<Status, AllocError> {
+    starter: &mut P,
+    room: (usize, usize),
+    expected: (Status, &str, &str),
+) -> Result<bool, AllocError> {
+    let mut out = sink_of(alloc, room.0);
+    let mut err = sink_of(alloc, room.1);
+    let status = answer_over(alloc, words, shelf, starter, &mut out, &mut err)?;
+    Ok(
+        status == expected.0
+            && out.bytes.as_slice() == expected.1.as_bytes()
+            && err.bytes.as_slice() == expected.2.as_bytes(),
+    )
+}
+
+/// The same where no program can be started.
+pub(crate) fn gives(
+    alloc: Global,
+    words: &[&str],
+    shelf: &mut MemoryShelf,
+    room: (usize, usize),
+    expected: (Status, &str, &str),
+) -> Result<bool, AllocError> {
     let mut starter = MemoryStarter::new(alloc, &[], 0);
-    answer_over(alloc, words, shelf, &mut starter, out, err)
+    gives_over(alloc, words, shelf, &mut starter, room, expected)
+}
+
+/// Whether a call with these words gives this, over a shelf with these bytes under the name `s` and with ample room.
+pub(crate) fn gives_of(
+    alloc: Global,
+    words: &[&str],
+    bytes: &[u8],
+    expected: (Status, &str, &str),
+) -> Result<bool, AllocError> {
+    let mut shelf = shelf_of(alloc, Vec::from_slice(alloc, bytes)?)?;
+    gives(alloc, words, &mut shelf, AMPLE_ROOM, expected)
 }
 
 pub(crate) const RUN: [&str; 3] = ["run", "--rounds", "s"];
 
 /// The scene without endpoints.
 const EMPTY: &str = "wx scene 1 chrome\n";
+
+const EMPTY_JOURNAL: &str = "wx journal 1 chrome\n";
 
 const USAGE: &str = "wx: usage\n";
 
@@ -86,18 +121,8 @@ const NO_HEAD: Status = Status::SceneRefused {
 /// Memory is ample here, so a program that always answers that it was refused fails.
 #[test]
 fn memory_is_not_refused(rt: HostRuntime) -> Result<(), Fail> {
-    let alloc = rt.alloc();
-    let scene = Vec::from_slice(alloc, EMPTY.as_bytes())?;
-    let mut shelf = shelf_of(alloc, scene)?;
-    let mut out = sink_of(alloc, AMPLE);
-    let mut err = sink_of(alloc, AMPLE);
-    assert_eq!(rt;
-        answer(alloc, &RUN, &mut shelf, &mut out, &mut err)?,
-        Status::Done
-    );
-    assert_eq!(rt; out.bytes.as_slice(), b"wx journal 1 chrome\n".as_slice());
-    assert_eq!(rt; out.bytes.len(), 20);
-    assert_eq!(rt; err.writes, 0);
+    let expected = (Status::Done, EMPTY_JOURNAL, "");
+    assert!(rt; gives_of(rt.alloc(), &RUN, EMPTY.as_bytes(), expected)?);
     Ok(())
 }
 
@@ -347,15 +372,12 @@ c1 leave -> done
 
 #[test]
 fn scenes_run(rt: HostRuntime) -> Result<(), Fail> {
-    let alloc = rt.alloc();
     for (scene, journal) in SCENES {
-        let mut shelf = shelf_of(alloc, Vec::from_slice(alloc, scene.as_bytes())?)?;
-        let mut out = sink_of(alloc, AMPLE);
-        let mut err = sink_of(alloc, AMPLE);
-        let status = answer(alloc, &RUN, &mut shelf, &mut out, &mut err)?;
-        assert_eq!(rt; status, Status::Done);
-        assert_eq!(rt; str::from_utf8(&out.bytes), Ok(journal));
-        assert_eq!(rt; err.writes, 0);
+        let expected = (Status::Done, journal, "");
+        assert!(rt;
+            gives_of(rt.alloc(), &RUN, scene.as_bytes(), expected)?,
+            "{scene}"
+        );
     }
     Ok(())
 }
@@ -388,21 +410,21 @@ fn words(rt: HostRuntime) -> Result<(), Fail> {
         (&["run", "--rounds", "s"], Status::Done, ""),
         (&["run", "s", "--rounds"], Status::Done, ""),
     ];
+    let mut shelf = shelf_of(alloc, Vec::from_slice(alloc, EMPTY.as_bytes())?)?;
+    shelf.files.push(MemoryFile {
+        name: String::from_str(alloc, "-")?,
+        bytes: Vec::from_slice(alloc, EMPTY.as_bytes())?,
+    })?;
     for (words, status, line) in cases {
-        let scene = Vec::from_slice(alloc, EMPTY.as_bytes())?;
-        let mut shelf = shelf_of(alloc, scene)?;
-        shelf.files.push(MemoryFile {
-            name: String::from_str(alloc, "-")?,
-            bytes: Vec::from_slice(alloc, EMPTY.as_bytes())?,
-        })?;
-        let mut out = sink_of(alloc, AMPLE);
-        let mut err = sink_of(alloc, AMPLE);
-        assert_eq!(rt;
-            answer(alloc, words, &mut shelf, &mut out, &mut err)?,
-            status
+        let journal = match status {
+            Status::Done => EMPTY_JOURNAL,
+            _ => "",
+        };
+        let expected = (status, journal, line);
+        assert!(rt;
+            gives(alloc, words, &mut shelf, AMPLE_ROOM, expected)?,
+            "{words:?}"
         );
-        assert_eq!(rt; str::from_utf8(&err.bytes), Ok(line));
-        assert_eq!(rt; out.writes == 0, status != Status::Done);
     }
     Ok(())
 }
@@ -463,29 +485,16 @@ fn no_scenes(rt: HostRuntime) -> Result<(), Fail> {
         ),
     ];
     for (text, line, kind, told) in cases {
-        let mut shelf = shelf_of(alloc, Vec::from_slice(alloc, text.as_bytes())?)?;
-        let mut out = sink_of(alloc, AMPLE);
-        let mut err = sink_of(alloc, AMPLE);
-        let status = answer(alloc, &RUN, &mut shelf, &mut out, &mut err)?;
-        assert_eq!(rt; status, Status::SceneRefused { line, kind }, "{text}");
-        assert_eq!(rt; str::from_utf8(&err.bytes), Ok(told), "{text}");
-        assert_eq!(rt; out.writes, 0, "{text}");
+        let expected = (Status::SceneRefused { line, kind }, "", told);
+        assert!(rt; gives_of(alloc, &RUN, text.as_bytes(), expected)?, "{text}");
     }
     let mut shelf = shelf_of(alloc, vec![in alloc; 35u8; 67108865]?)?;
-    let mut out = sink_of(alloc, AMPLE);
-    let mut err = sink_of(alloc, AMPLE);
-    let status = answer(alloc, &RUN, &mut shelf, &mut out, &mut err)?;
-    assert_eq!(rt;
-        status,
-        Status::SceneRefused {
-            line: 0,
-            kind: SceneKind::Large
-        }
-    );
-    assert_eq!(rt;
-        err.bytes.as_slice(),
-        b"wx: scene refused: line 0: large\n".as_slice()
-    );
+    let large = Status::SceneRefused {
+        line: 0,
+        kind: SceneKind::Large,
+    };
+    let expected = (large, "", "wx: scene refused: line 0: large\n");
+    assert!(rt; gives(alloc, &RUN, &mut shelf, AMPLE_ROOM, expected)?);
     Ok(())
 }
 
@@ -539,14 +548,11 @@ fn faults(rt: HostRuntime) -> Result<(), Fail> {
         if read_fails {
             shelf.fails_at.push(0)?;
         }
-        let mut out = sink_of(alloc, room.0);
-        let mut err = sink_of(alloc, room.1);
-        assert_eq!(rt;
-            answer(alloc, &RUN, &mut shelf, &mut out, &mut err)?,
-            status
+        let expected = (status, on_out, on_err);
+        assert!(rt;
+            gives(alloc, &RUN, &mut shelf, room, expected)?,
+            "{status:?} {room:?}"
         );
-        assert_eq!(rt; str::from_utf8(&out.bytes), Ok(on_out));
-        assert_eq!(rt; str::from_utf8(&err.bytes), Ok(on_err));
     }
     Ok(())
 }
@@ -626,14 +632,8 @@ fn stalled_runs(rt: HostRuntime) -> Result<(), Fail> {
     ];
     for (scene, room, status, journal, lines) in cases {
         let mut shelf = shelf_of(alloc, Vec::from_slice(alloc, scene.as_bytes())?)?;
-        let mut out = sink_of(alloc, room.0);
-        let mut err = sink_of(alloc, room.1);
-        assert_eq!(rt;
-            answer(alloc, &RUN, &mut shelf, &mut out, &mut err)?,
-            status
-        );
-        assert_eq!(rt; str::from_utf8(&out.bytes), Ok(journal));
-        assert_eq!(rt; str::from_utf8(&err.bytes), Ok(lines));
+        let expected = (status, journal, lines);
+        assert!(rt; gives(alloc, &RUN, &mut shelf, room, expected)?, "{lines}");
     }
     Ok(())
 }
@@ -659,6 +659,9 @@ fn lines_of_ends(rt: HostRuntime) -> Result<(), Fail> {
     }
     Ok(())
 }
+
+/// Two frames, which are no journal.
+const FRAMES: &[u8] = b"\x02\x00\x00\x00{}\x01\x00\x00\x001";
 
 /// The other commands answer through the same call.
 #[test]
@@ -713,16 +716,8 @@ fn other_commands(rt: HostRuntime) -> Result<(), Fail> {
         ),
     ];
     for (words, status, on_out, on_err) in cases {
-        let frames = Vec::from_slice(alloc, b"\x02\x00\x00\x00{}\x01\x00\x00\x001")?;
-        let mut shelf = shelf_of(alloc, frames)?;
-        let mut out = sink_of(alloc, AMPLE);
-        let mut err = sink_of(alloc, AMPLE);
-        assert_eq!(rt;
-            answer(alloc, words, &mut shelf, &mut out, &mut err)?,
-            status
-        );
-        assert_eq!(rt; str::from_utf8(&out.bytes), Ok(on_out));
-        assert_eq!(rt; str::from_utf8(&err.bytes), Ok(on_err));
+        let expected = (status, on_out, on_err);
+        assert!(rt; gives_of(alloc, words, FRAMES, expected)?, "{words:?}");
     }
     Ok(())
 }
