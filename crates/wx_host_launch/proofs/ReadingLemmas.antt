@@ -4,7 +4,7 @@ use Rattle.std.specs.Prelude.{IfSome, IfNone, option_map}
 use Rattle.std.proofs.lemmas.Bool.{cases_lt}
 use Rattle.std.proofs.lemmas.List.{append-nil, take_all, length-take}
 use Rattle.wx_json.specs.Text.{IsJsonText}
-use Rattle.wx_native_frame.specs.Frames.{Unfinished, told, IsFrame, IsTrouble, IsTroubleFirst, IsUnderWay, EndsFrame, StopsAt}
+use Rattle.wx_native_frame.specs.Frames.{Unfinished, told_length, IsFrame, IsTrouble, IsTroubleFirst, IsUnderWay, EndsFrame, StopsAt}
 use Rattle.wx_native_frame.specs.Frames.{too_long}
 use Rattle.wx_native_frame.specs.declared.FrameFault.{FrameFault}
 use Rattle.wx_native_frame.specs.declared.FrameFault.TheVariants as fault
@@ -119,7 +119,7 @@ again limit b left old new f is (g, h) first stops short =
 -- One read
 
 -- with what is wanted, or less, no byte behind a frame comes in
-pub within : (r : Unfinished) (more wanted : ℕ) → r.limit ≡ LONGEST_SAID → IsUnderWay r.bytes LONGEST_SAID → more ≤ wanted → (length r.bytes < 4 → wanted + length r.bytes ≡ 4) → (4 ≤ length r.bytes → IsUnderWay r.bytes r.limit → wanted + length r.bytes ≡ 4 + told r.bytes) → IsWithinFrame r.bytes more
+pub within : (r : Unfinished) (more wanted : ℕ) → r.limit ≡ LONGEST_SAID → IsUnderWay r.bytes LONGEST_SAID → more ≤ wanted → (length r.bytes < 4 → wanted + length r.bytes ≡ 4) → (4 ≤ length r.bytes → IsUnderWay r.bytes r.limit → wanted + length r.bytes ≡ 4 + told_length r.bytes) → IsWithinFrame r.bytes more
 within r more wanted is u le head text = record {
   head = λ lt. let e = head lt in omega arith;
   text = λ long. let L : ℕ → Type 0 = λ l. IsUnderWay r.bytes l in let e = text long (subst L (sym is) u) in omega arith;
@@ -133,11 +133,11 @@ pub some_wanted : (r : Unfinished) (wanted : ℕ) → r.limit ≡ LONGEST_SAID �
 some_wanted r wanted is u none = elim (cases_lt 0 wanted) [ inl lt ↦ lt | inr le ↦ let (f, h) = none (omega arith) in let L : ℕ → Type 0 = λ l. IsTrouble r.bytes l f in absurd (u.no_trouble f (subst L is h)) ]
 
 -- bytes under way are fewer than those of the longest frame
-pub under_way_short : (r : Unfinished) (wanted : ℕ) → r.limit ≡ LONGEST_SAID → 0 < wanted → (0 < wanted → IsUnderWay r.bytes r.limit) → (4 ≤ length r.bytes → IsUnderWay r.bytes r.limit → wanted + length r.bytes ≡ 4 + told r.bytes) → length r.bytes < 1048580
+pub under_way_short : (r : Unfinished) (wanted : ℕ) → r.limit ≡ LONGEST_SAID → 0 < wanted → (0 < wanted → IsUnderWay r.bytes r.limit) → (4 ≤ length r.bytes → IsUnderWay r.bytes r.limit → wanted + length r.bytes ≡ 4 + told_length r.bytes) → length r.bytes < 1048580
 under_way_short r wanted is some under_way text = elim (cases_lt (length r.bytes) 4) [
   | inl lt ↦ omega arith
-  | inr le ↦ elim (cases_lt r.limit (told r.bytes)) [
-    | inl big ↦ absurd ((under_way some).no_trouble (fault.TooLong (told r.bytes)) (too_long le refl big))
+  | inr le ↦ elim (cases_lt r.limit (told_length r.bytes)) [
+    | inl big ↦ absurd ((under_way some).no_trouble (fault.TooLong (told_length r.bytes)) (too_long le refl big))
     | inr fits ↦ let e = text le (under_way some) in omega (arith, is)
   ]
 ]
