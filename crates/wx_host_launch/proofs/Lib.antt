@@ -5,3 +5,4 @@ pub mod ClosedLemmas
 pub mod StepLemmas
 pub mod TurnLemmas
 pub mod DeskLemmas
+pub mod BrokerLemmas
