@@ -12,4 +12,4 @@ mod tests;
 
 pub use outcome::{Outcome, RunEnd};
 pub use run::run_scene;
-pub use wx_script::SpentWho;
+pub use wx_script::{How, SpentWho};
