@@ -51,7 +51,7 @@ loop-cursors-preserved g c =
     let same_scripts = scripts_behind scripts ps b so.ready.endpoints.behind in
     let stand : AllStand world scripts qs d = stand_now world c.loop-cursors.desk.broker.world scripts (scripts_in ps) qs d c.loop-cursors.invariant.same_world same_scripts all.stand in
     let round : (known : ℕ) → WereStartedBelow known old → IsNextRound known scripts qs new b d Moved = λ known first.
-        round_now known scripts (scripts_in ps) qs new b d c.in_ok-next_round.field-0 Moved same_scripts c.in-Moved.is (all.round known first) in
+    round_now known scripts (scripts_in ps) qs new b d c.in_ok-next_round.field-0 Moved same_scripts c.in-Moved.is (all.round known first) in
     let hosts_stand = hosts_now (g.P.Starter.state c.args.starter.now).writing (g.P.Starter.state c.loop-cursors.starter).writing c.args.desk.now.broker.world c.loop-cursors.desk.broker.world (reverse c.next_round.new.desk.broker.entries) (slots_of g.P.Starter.state c.next_round.new.slots.items)
     (keeps_writing _ _ _ _ c.loop-cursors.invariant.kept) c.loop-cursors.invariant.same_world c.in_ok-next_round.ensures.hosts_stand in
     let ready = ready_again (state c.args.starter.now).writing world scripts qs new d stand hosts_stand (round 0 (none_below old)).1 in

@@ -54,7 +54,7 @@ returns-in-Idle g c =
     let added = c.in_ok-add_slots.ensures in
     let serves = c.in_ok-served.ensures in
     let served : (known : ℕ) → WereStartedBelow known old → HostsServed known b d mid new Idle = λ known first.
-        subst (λ r. HostsServed known b d mid new r) c.in-Idle.is (serves.served known (were_started old mid known added.front first)) in
+    subst (λ r. HostsServed known b d mid new r) c.in-Idle.is (serves.served known (were_started old mid known added.front first)) in
     let some = served 0 (none_below old) in
     let legal : IsLegal world c.serve_hosts.new.broker.entries = subst (λ w. IsLegal w c.serve_hosts.new.broker.entries) turns.same_world serves.legal in
     let all_there = slots_added state c.args.slots.now.items c.add_slots.new.slots.items b added.all added.left in
