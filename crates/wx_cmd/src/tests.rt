@@ -401,7 +401,7 @@ fn words(rt: HostRuntime) -> Result<(), Fail> {
         (&["run", "--help"], Status::Usage, USAGE),
         (&["storm", "0"], Status::Usage, USAGE),
         (&["storm", "501"], Status::Usage, USAGE),
-        (&["--help"], Status::Usage, USAGE),
+        (&["--help", "run"], Status::Usage, USAGE),
         (&["run", "t"], missing, MISSING),
         (&["run", "--rounds", "t"], missing, MISSING),
         (&["run", "--rounds", ""], missing, MISSING),

@@ -13,7 +13,7 @@ pub struct StreamSink<W> {
 impl<W: Write> StreamSink<W> {
     /// A sink over this stream; no write has failed.
     pub fn new(inner: W) -> Self
-        ensures { Self.faults result ≡ 0 }
+        ensures { (Self.state result).faults ≡ 0 }
     {
         StreamSink { inner, faults: 0 }
     }
@@ -37,9 +37,7 @@ fn write_whole<W: Write>(inner: &mut W, bytes: &[u8]) -> bool {
 }
 
 impl<W: Write> Sink for StreamSink<W> {
-    ghost written = { λ _. None };
-
-    ghost faults = { λ s. s.faults };
+    ghost state = { λ s. record { written = None; faults = s.faults } };
 
     fn faults(&self) -> u64 {
         self.faults

@@ -336,7 +336,7 @@ fn words_of_no_form(rt: HostRuntime) -> Result<(), Fail> {
         &["frames", "f", "--rounds"],
         &["frames", "--help"],
         &["report", "f", "g"],
-        &["--version"],
+        &["--version", "f"],
         &["run", "f"],
         &["storm", "5"],
     ];
@@ -344,6 +344,56 @@ fn words_of_no_form(rt: HostRuntime) -> Result<(), Fail> {
         judge(&rt, rt.alloc(), words, b"", USAGE)?;
     }
     Ok(())
+}
+
+/// What the program says of itself.
+const ABOUT: [(&str, &str); 4] = [
+    ("--help", HELP),
+    ("-h", HELP),
+    ("help", HELP),
+    ("--version", "wx 0.1.0\n"),
+];
+
+const HELP: &str = "wx: runs scenes of browser extensions over a messaging broker
+
+  wx run SCENE            runs the scene, and prints its journal
+  wx run --rounds SCENE   the same in rounds, on one thread
+  wx match PATTERN URL    prints whether the match pattern meets the URL
+  wx frames FILE          prints the native messages in the file
+  wx report FILE          prints what became of each channel and request
+  wx --help               prints this
+  wx --version            prints the version
+
+SCENE and FILE may be -, for standard input. README.md, beside the script wx,
+tells of scenes, journals and statuses.
+";
+
+#[test]
+fn words_about_the_program(rt: HostRuntime) -> Result<(), Fail> {
+    let alloc = rt.alloc();
+    for (word, text) in ABOUT {
+        judge(&rt, alloc, &[word], b"", (Status::Done, text, ""))?;
+        judge(&rt, alloc, &["frames", word], b"", about_a_command(word))?;
+        let mut shelf = shelf_of(alloc, Vec::new(alloc))?;
+        let mut out = sink_of(alloc, 0);
+        let mut err = sink_of(alloc, AMPLE);
+        let status = answer(alloc, &[word], &mut shelf, &mut out, &mut err)?;
+        assert!(rt; status == Status::WriteFault, "{word}");
+    }
+    Ok(())
+}
+
+/// After a command's name `help` is a file, and the others are of no form.
+fn about_a_command<'a>(word: &str) -> Expected<'a> {
+    if word == "help" {
+        (
+            Status::InputRefused(InputKind::Missing),
+            "",
+            "wx: input refused: missing\n",
+        )
+    } else {
+        USAGE
+    }
 }
 
 #[test]

@@ -1,11 +1,12 @@
-ghost use Rattle.std.specs.Prelude.{◌≡◌, ℕ, ◌+◌, ◌-◌, ◌*◌, ◌<◌, ◌≤◌, ◌++◌, length, take, map, reverse, Option, None, IfOk, OnOk};
+//! The hosts' part of a round: slots for hosts, their turns in rising number, and their end.
+ghost use Rattle.std.specs.Prelude.{◌≡◌, ℕ, ◌+◌, ◌-◌, ◌*◌, ◌<◌, ◌≤◌, length, take, reverse, Option, None, IfOk, OnOk};
 ghost use Rattle.wx_machine.specs.Answers.{IsLegal};
 ghost use Rattle.wx_machine.specs.Hosts.{hosts};
 ghost use Rattle.wx_host_launch.specs.Records.{Writing};
-ghost use Rattle.wx_host_slot.specs.Slots.{closing_record, host_limit, slots_of};
+ghost use Rattle.wx_host_slot.specs.Slots.{host_limit, slots_of};
 ghost use Rattle.wx_run.specs.Hosts.{NoneReady};
 ghost use Rattle.wx_run.specs.Serving.{HostsServed, FirstHeard};
-ghost use Rattle.wx_run.specs.Slots.{HostsStand, AllWereStarted, AddsBehind, first_spent_slot, first_unended_slot, is_moved, all_turns_left, keeping};
+ghost use Rattle.wx_run.specs.Slots.{HostsStand, AllWereStarted, AddsBehind, first_spent_slot, first_unended_slot, is_moved, all_turns_left, keeping, absorbing};
 
 use crate::rounds::Rounded;
 use std::alloc::Global;
@@ -122,10 +123,10 @@ pub fn hear_first<P: Starter>(
     })
 }
 
-/// Finishes each started child, and hands the hosts' records over, in rising number.
+/// Finishes each started child, and hands the slots' starters over, with the hosts' records, in rising number.
 pub fn finish_hosts<P: Starter>(slots: Vec<HostSlot<P>>, starter: &mut P)
     requires { length slots.items ≤ (P.state starter.old).places }
-    ensures { (P.state starter.new).records ≡ (P.state starter.old).records ++ map closing_record (slots_of P.state slots.items) }
+    ensures { P.state starter.new ≡ absorbing (P.state starter.old) (slots_of P.state slots.items) }
 {
     for slot in slots {
         starter.absorb(slot.finish());

@@ -2,6 +2,7 @@
 #![tactic(auto)]
 
 mod hosts;
+mod laws;
 mod opening;
 mod outcome;
 mod rounds;
@@ -10,6 +11,7 @@ mod step;
 #[cfg(test)]
 mod tests;
 
+pub use laws::one_end;
 pub use outcome::{Outcome, RunEnd};
 pub use run::run_scene;
-pub use wx_script::SpentWho;
+pub use wx_script::{How, SpentWho};

@@ -1,3 +1,4 @@
+//! The opening of a run: each endpoint of the scene comes in, in order.
 ghost use Rattle.std.specs.Prelude.{◌≡◌, [], IfOk, OnOk, length, reverse, is_some};
 ghost use Rattle.wx_machine.specs.Answers.{IsLegal};
 ghost use Rattle.wx_machine.specs.Contexts.{contexts};

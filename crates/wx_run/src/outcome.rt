@@ -1,3 +1,4 @@
+//! What a run leaves, and how it ends.
 use wx_journal::Journal;
 use wx_script::SpentWho;
 
@@ -9,7 +10,7 @@ pub enum RunEnd {
     /// Some script has not ended, no endpoint is spent, each script that has not ended waits with nothing pending, and every
     /// host has ended.
     Stalled,
-    /// It stopped behind the entry with which this endpoint or host had made as many as it may, and had not ended.
+    /// It stopped after the entry with which this endpoint or host had made as many as it may, and had not ended.
     Spent(SpentWho),
 }
 

@@ -1,3 +1,4 @@
+//! One turn of an endpoint.
 ghost use Rattle.std.specs.Prelude.{◌≡◌, IfOk, reverse};
 ghost use Rattle.wx_run.specs.Step.{IsReady, IsStep};
 

@@ -1,4 +1,4 @@
-use crate::{Outcome, RunEnd, run_scene};
+use crate::{How, Outcome, RunEnd, run_scene};
 use std::alloc::Global;
 use std::test::Fail;
 use wx_external::World;
@@ -79,8 +79,13 @@ const RUNS: [(&str, &str, RunEnd); 11] = [
 fn journal_text(alloc: Global, text: &str) -> Option<(Vec<u8>, RunEnd)> {
     let scene = Scene::read(alloc, text.as_bytes()).ok()?;
     let mut starter = MemoryStarter::new(alloc, &[], 0);
-    let Ok(Outcome { journal, end }) = run_scene(alloc, &scene, World::new(alloc), &mut starter)
-    else {
+    let Ok(Outcome { journal, end }) = run_scene(
+        alloc,
+        &scene,
+        World::new(alloc),
+        &mut starter,
+        How::Rounds,
+    ) else {
         return None;
     };
     Some((journal.print(alloc).ok()?, end))

@@ -16,7 +16,7 @@ mod tests;
 mod word;
 
 pub use scene::{
-    Scene, SceneEndpoint, SceneExtension, SceneFault, SceneFile, SceneKind, SceneReadFault,
+    How, Scene, SceneEndpoint, SceneExtension, SceneFault, SceneFile, SceneKind, SceneReadFault,
     SpentWho,
 };
 pub use script::{Act, Command, Heard, Received, Script, Var};

@@ -9,4 +9,5 @@ mod run;
 mod tests;
 
 pub use plain::{PlainCommand, plain_command};
-pub use run::scene_named;
+pub use run::{how_asked, scene_named};
+pub use wx_script::How;

@@ -1,3 +1,4 @@
+//! The words of the commands that make no run.
 ghost use Rattle.std.specs.Prelude.{◌≡◌, IfOk, map, drop, string_bytes, true};
 ghost use Rattle.std.specs.List.{list_all};
 ghost use Rattle.std.specs.Option.{option_map};
@@ -21,6 +22,10 @@ pub enum PlainCommand<'a> {
     Frames { file: &'a str },
     /// `report FILE`.
     Report { file: &'a str },
+    /// `--help`, `-h` or `help`, alone.
+    Help,
+    /// `--version`, alone.
+    Version,
 }
 
 /// The command that the values of `match` make, where both are there.
@@ -33,7 +38,7 @@ fn of_match<'a>(found: &ArgMatches<'a>) -> Option<PlainCommand<'a>>
     }
 }
 
-/// The command of words that begin with `match` and have operands behind it.
+/// The command of words that begin with `match` and have operands after it.
 fn match_command<'a>(
     alloc: Global,
     words: &'a [String],
@@ -53,7 +58,7 @@ fn match_command<'a>(
     }
 }
 
-/// The file of words that begin with this name and have operands behind it.
+/// The file of words that begin with this name and have operands after it.
 fn file_behind<'a>(
     alloc: Global,
     name: &'a str,
@@ -74,7 +79,25 @@ fn file_behind<'a>(
     }
 }
 
-/// The command that makes no run which the words ask for; other words ask for none. A word behind the first that begins
+/// Whether the word asks for the commands.
+fn is_help(word: &str) -> bool
+    ensures { result ≡ forms.is_help word.now }
+{
+    word == "--help" || word == "-h" || word == "help"
+}
+
+/// What one word alone asks about the program.
+fn about_command<'a>(words: &'a [String]) -> Option<PlainCommand<'a>>
+    ensures { option_map command_view result ≡ forms.about_in (map string_bytes words.entry.now) }
+{
+    match words {
+        [word] if is_help(word.as_str()) => Some(PlainCommand::Help),
+        [word] if word.as_str() == "--version" => Some(PlainCommand::Version),
+        _ => None,
+    }
+}
+
+/// The command that makes no run which the words ask for; other words ask for none. A word after the first that begins
 /// with `-` and is not `-` alone is refused here, and the others are counted and read by `clap`.
 pub fn plain_command<'a>(
     alloc: Global,
@@ -94,6 +117,6 @@ pub fn plain_command<'a>(
         let file = file_behind(alloc, "report", words)?;
         Ok(file.map(|file| PlainCommand::Report { file }))
     } else {
-        Ok(None)
+        Ok(about_command(words))
     }
 }

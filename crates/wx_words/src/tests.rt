@@ -43,7 +43,7 @@ fn runs(rt: HostRuntime) -> Result<(), Fail> {
 
 #[test]
 fn plain_commands(rt: HostRuntime) -> Result<(), Fail> {
-    let cases: [(&[&str], Option<PlainCommand>); 19] = [
+    let cases: [(&[&str], Option<PlainCommand>); 31] = [
         (
             &["match", "a", "b"],
             Some(PlainCommand::Match {
@@ -73,7 +73,22 @@ fn plain_commands(rt: HostRuntime) -> Result<(), Fail> {
         (&["frames"], None),
         (&["frames", "f", "g"], None),
         (&["frames", "--version"], None),
-        (&["--help"], None),
+        (&["--help"], Some(PlainCommand::Help)),
+        (&["-h"], Some(PlainCommand::Help)),
+        (&["help"], Some(PlainCommand::Help)),
+        (&["--version"], Some(PlainCommand::Version)),
+        (&["-V"], None),
+        (&["version"], None),
+        (&["-"], None),
+        (&["--help", "match"], None),
+        (&["--help", "--version"], None),
+        (&["help", "run"], None),
+        (&["match", "--help"], None),
+        (&["report", "-h"], None),
+        (
+            &["frames", "help"],
+            Some(PlainCommand::Frames { file: "help" }),
+        ),
         (&["run", "s"], None),
     ];
     for (words, command) in cases {

@@ -22,9 +22,9 @@ returns-in-Idle-clause-round g c =
     let b = reverse c.whole_round.new.desk.broker.entries in
     let old = slots_of g.P.Starter.state c.whole_round.new.slots.items in
     let legal : OnOk c.hear_first.result (IsLegal c.args.desk.now.broker.world c.hear_first.new.broker.entries) = subst (λ w. OnOk c.hear_first.result (IsLegal w c.hear_first.new.broker.entries)) c.in_ok-rounded.ensures.same_world c.hear_first.ensures.legal in
-    let idle : IsWholeRound scripts ps old a b Idle = subst (λ r. IsWholeRound scripts ps old a b r) c.in-Idle.is c.in_ok-rounded.ensures.round in
     let size = same_sizes g.P.Starter.state c.whole_round.new.slots.items c.hear_first.new.slots.items c.hear_first.ensures.same_size in
-    heard_next c.args.desk.now.broker.world scripts ps old (slots_of g.P.Starter.state c.hear_first.new.slots.items) a b (reverse c.hear_first.new.broker.entries) c.hear_first.result c.in_ok-rounded.ensures.stand size idle c.hear_first.ensures.heard legal
+    λ known first. let idle : IsWholeRound known scripts ps old a b Idle = subst (λ r. IsWholeRound known scripts ps old a b r) c.in-Idle.is (c.in_ok-rounded.ensures.round known first) in
+    heard_next known c.args.desk.now.broker.world scripts ps old (slots_of g.P.Starter.state c.hear_first.new.slots.items) a b (reverse c.hear_first.new.broker.entries) c.hear_first.result c.in_ok-rounded.ensures.stand size idle c.hear_first.ensures.heard legal
 
 pub returns-in-Idle-clause-less : goal.returns-in-Idle-clause-less
 returns-in-Idle-clause-less g c =
@@ -42,8 +42,8 @@ returns-in_default g c =
     record {
       stand = all.stand;
       hosts_stand = all.hosts_stand;
-      round = next_whole (scripts_in c.args.cursors.now.items) c.whole_round.new.cursors.items (slots_of g.P.Starter.state c.whole_round.new.slots.items)
-          (reverse c.args.desk.now.broker.entries) (reverse c.whole_round.new.desk.broker.entries) c.in_ok-rounded.rounded c.in_default.not-Idle all.round;
+      round = λ known first. next_whole known (scripts_in c.args.cursors.now.items) c.whole_round.new.cursors.items (slots_of g.P.Starter.state c.whole_round.new.slots.items)
+          (reverse c.args.desk.now.broker.entries) (reverse c.whole_round.new.desk.broker.entries) c.in_ok-rounded.rounded c.in_default.not-Idle (all.round known first);
       less = all.less;
       kept = all.kept;
       same_world = all.same_world;
