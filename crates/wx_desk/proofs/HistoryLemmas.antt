@@ -10,9 +10,6 @@ use Rattle.wx_machine.specs.declared.entries.Entry.{Entry}
 use Rattle.wx_desk.specs.History.{Seen, entries_in, AreOthers, own_in}
 use Rattle.wx_desk.specs.Desks.{DeskState, past_of, MakesNone, MakesOne}
 
-
-
-
 pub others_none : AreOthers []
 others_none = All-nil (λ (s : Seen). s.own ≡ false)
 
@@ -29,7 +26,7 @@ own_in-others (s ∷ others) history none =
     ap (λ (b : Bool). cond b 1 0 + own_in (others ++ history)) (others_first s others none)
     ∙ omega (arith, own_in-others others history (others_rest s others none))
 
-module _ {A : Type 0} {as_who : A → Who} {
+module _ {A : Type 0} {as_who : A → Who} where
   pub makes_none : (desk : DeskState A as_who) → MakesNone desk desk
   makes_none desk = record {
     others = [];
@@ -59,4 +56,3 @@ module _ {A : Type 0} {as_who : A → Who} {
   -- the journal grew by what others did
   pub past_grown : (old new : DeskState A as_who) (none : MakesNone old new) → past_of new ≡ entries_in none.others ++ past_of old
   past_grown old new none = ap entries_in none.seen ∙ map-append (λ (s : Seen). s.entry) none.others old.history
-}

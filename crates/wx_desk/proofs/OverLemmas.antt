@@ -47,7 +47,7 @@ known_later e past (Context c) known = more (is_enter e.call) known
     more false known = omega arith
 known_later e past (Host h) known = omega (arith, known, length-append (hosts past) (option_to_list (starts past e)))
 
-module _ {A : Type 0} (as_who : A → Who) (who : A) {
+module _ {A : Type 0} (as_who : A → Who) (who : A) where
   -- the journal of the desk is the broker's
   pub past_over : (broker : BrokerState) → past_of (desk_over as_who who broker) ≡ reverse broker.entries
   past_over broker = entries_in-seen_by (as_who who) (reverse broker.entries)
@@ -63,7 +63,6 @@ module _ {A : Type 0} (as_who : A → Who) (who : A) {
     legal = subst (EachAfter (FollowsMachine broker.world)) (sym (past_over broker)) legal;
     known = subst (λ past. IsKnown past (as_who who)) (sym (past_over broker)) known;
   }
-}
 
 -- ---- one more entry, or none
 
@@ -71,7 +70,7 @@ pub past_after : (who : Who) (old new : BrokerState) (call : Call) (answer : Ans
     → reverse new.entries ≡ record { who = who; call = call; answer = answer } ∷ reverse old.entries
 past_after who old new call answer appends = ap reverse appends.grown ∙ reverse-append old.entries (_ ∷ [])
 
-module _ {A : Type 0} (as_who : A → Who) (who : A) (old new : BrokerState) {
+module _ {A : Type 0} (as_who : A → Who) (who : A) (old new : BrokerState) where
   desk_after : (call : Call) (answer : Answer) → Appends old new (as_who who) call answer
       → desk_over as_who who new ≡ after_own (desk_over as_who who old) call answer
   desk_after call answer appends =
@@ -124,7 +123,6 @@ module _ {A : Type 0} (as_who : A → Who) (who : A) (old new : BrokerState) {
       → IfOk r (λ answer. Appends old new (as_who who) call answer) → OnErr r (Stays old new) → IsSound (desk_over as_who who new)
   sound_after call (Ok answer) may sound appends stays = sound_grown (as_who who) call answer sound may appends
   sound_after call (Err e) may sound appends stays = sound_same sound stays
-}
 
 -- ---- texts
 

@@ -9,7 +9,20 @@ use wx_machine::{Answer, JsonText};
 /// is `stopped`.
 pub trait Desk: Send {
     ghost use Rattle.std.specs.Prelude.{
-        ◌≡◌, ◌+◌, ◌<◌, ◌≤◌, ℕ, Bool, false, List, Option, Some, IfOk, IfErr, OnErr, MatchOption,
+      ◌≡◌,
+      ◌+◌,
+      ◌<◌,
+      ◌≤◌,
+      ℕ,
+      Bool,
+      false,
+      List,
+      Option,
+      Some,
+      IfOk,
+      IfErr,
+      OnErr,
+      MatchOption,
     };
     ghost use Rattle.wx_machine.specs.Carried.{text_of};
     ghost use Rattle.wx_machine.specs.declared.entries.Call.TheVariants as Call;

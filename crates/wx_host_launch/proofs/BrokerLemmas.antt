@@ -28,7 +28,7 @@ use Rattle.wx_host_launch.proofs.HostLemmas.{taken_short}
 abbrev pub host_over : HostNo → BrokerState → HostDeskState
 host_over h broker = desk_over Host h broker
 
-module _ (desk : BrokerDesk) {
+module _ (desk : BrokerDesk) where
   pub started : IsSound (host_over desk.host desk.broker) → desk.host.0 < length (hosts (reverse desk.broker.entries))
   started sound = known_over Host desk.host desk.broker sound
 
@@ -43,9 +43,8 @@ module _ (desk : BrokerDesk) {
     others = makes_none (host_over desk.host desk.broker);
     text_left = subst (λ past. IsSome (next_text past desk.host)) (sym (past_over Host desk.host desk.broker)) left;
   }
-}
 
-module _ (desk : BrokerDesk) (new : BrokerState) {
+module _ (desk : BrokerDesk) (new : BrokerState) where
   pub takes_news : (answer : Answer) → is_host_ready (reverse desk.broker.entries) desk.host ≡ true → Appends desk.broker new (Host desk.host) HostTake answer
       → TakesNews (host_over desk.host desk.broker) (host_over desk.host new) answer
   takes_news answer ready appends = record {
@@ -66,9 +65,8 @@ module _ (desk : BrokerDesk) (new : BrokerState) {
       let short = taken_short desk.broker.world (reverse desk.broker.entries) desk.host n (legal_over Host desk.host desk.broker sound) appends.answered in
       lent_later (Host desk.host) desk.broker new (Some n) HostTake (HasText n) appends (subst IsSome (sym short.carried) refl)
   lent_taken _ sound appends = refl
-}
 
-module _ {E : Type 0} (desk : BrokerDesk) (new : BrokerState) (call : Call) (r : Result Answer E) {
+module _ {E : Type 0} (desk : BrokerDesk) (new : BrokerState) (call : Call) (r : Result Answer E) where
   pub makes : IfOk r (λ answer. Appends desk.broker new (Host desk.host) call answer) → IfOk r (λ answer. MakesOne (host_over desk.host desk.broker) (host_over desk.host new) call answer)
   makes appends = made_one Host desk.host desk.broker new call r appends
 
@@ -79,7 +77,6 @@ module _ {E : Type 0} (desk : BrokerDesk) (new : BrokerState) (call : Call) (r :
   -- what the desk lends stands on
   pub lends_on : IfOk r (λ answer. Appends desk.broker new (Host desk.host) call answer) → OnErr r (Stays desk.broker new) → has_lent new desk.lent ≡ true
   lends_on appends stays = lent_after (Host desk.host) desk.broker new desk.lent call r appends stays desk.kept
-}
 
 -- what is asked of the next text
 pub is_left : (found next : Option EntryNo) → found ≡ next → is_some found ≡ true → IsSome next

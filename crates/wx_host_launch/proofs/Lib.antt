@@ -6,3 +6,4 @@ pub mod StepLemmas
 pub mod TurnLemmas
 pub mod DeskLemmas
 pub mod BrokerLemmas
+pub mod KeepsLemmas

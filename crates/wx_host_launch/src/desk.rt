@@ -7,7 +7,23 @@ use wx_machine::{Answer, JsonText, Reason};
 /// steps, of which each call but `left` and `text_of` takes at most one, and needs one unless it is `stopped`.
 pub trait HostDesk: Send {
     ghost use Rattle.std.specs.Prelude.{
-        ◌≡◌, ◌+◌, ◌<◌, ◌≤◌, ℕ, Bool, false, List, Option, length, Some, IsSome, IfOk, IfErr, IfSome, OnErr, MatchOption,
+      ◌≡◌,
+      ◌+◌,
+      ◌<◌,
+      ◌≤◌,
+      ℕ,
+      Bool,
+      false,
+      List,
+      Option,
+      length,
+      Some,
+      IsSome,
+      IfOk,
+      IfErr,
+      IfSome,
+      OnErr,
+      MatchOption,
     };
     ghost use Rattle.wx_id.specs.declared.numbers.EntryNo.{EntryNo};
     ghost use Rattle.wx_id.specs.declared.numbers.HostNo.{HostNo};
