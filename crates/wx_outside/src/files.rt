@@ -18,7 +18,7 @@ pub struct FileShelf<'a, R> {
 impl<'a, R: Files + Input> FileShelf<'a, R> {
     /// The files and the standard input of this runtime; no read has failed.
     pub fn new(runtime: &'a R) -> Self
-        ensures { (Self.state result).faults ≡ 0 }
+        ensures { Self.faults result ≡ 0 }
     {
         FileShelf {
             runtime,

@@ -13,7 +13,7 @@ pub struct StreamSink<W> {
 impl<W: Write> StreamSink<W> {
     /// A sink over this stream; no write has failed.
     pub fn new(inner: W) -> Self
-        ensures { (Self.state result).faults ≡ 0 }
+        ensures { Self.faults result ≡ 0 }
     {
         StreamSink { inner, faults: 0 }
     }

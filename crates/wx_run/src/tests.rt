@@ -1,4 +1,4 @@
-use crate::{How, Outcome, RunEnd, run_scene};
+use crate::{How, Outcome, RunEnd, SpentWho, run_scene};
 use std::alloc::Global;
 use std::test::Fail;
 use wx_external::World;
@@ -101,6 +101,29 @@ fn worked_runs(rt: HostRuntime) -> Result<(), Fail> {
             }
             None => assert!(rt; false, "{text}"),
         }
+    }
+    Ok(())
+}
+
+/// An endpoint that makes more entries than a run allows it.
+const ENDLESS: &str =
+    "wx scene 1 chrome\nextension x aaaaaaaaaaaaaaaaaaaaaaaaaaaaaaaa\npage p x /p\n  repeat 65536 listen none\n";
+
+/// With its 65,536th entry it is spent, and the run stops there.
+#[test]
+fn endless_script_is_spent(rt: HostRuntime) -> Result<(), Fail> {
+    let alloc = rt.alloc();
+    let Ok(scene) = Scene::read(alloc, ENDLESS.as_bytes()) else {
+        assert!(rt; false);
+        return Ok(());
+    };
+    let mut starter = MemoryStarter::new(alloc, &[], 0);
+    match run_scene(alloc, &scene, World::new(alloc), &mut starter, How::Rounds) {
+        Ok(outcome) => {
+            assert_eq!(rt; outcome.end, RunEnd::Spent(SpentWho::Endpoint(0)));
+            assert_eq!(rt; outcome.journal.entries().len(), 65_536);
+        }
+        Err(_) => assert!(rt; false),
     }
     Ok(())
 }
