@@ -1,3 +1,4 @@
+//! Extension ids.
 ghost use Rattle.std.specs.Prelude.{◌≡◌, ◌↔◌, IsTrue, IsOk, IfOk, IfErr};
 ghost use Rattle.std.specs.List.{prefix_len};
 ghost use Rattle.wx_id.specs.Ids as ids;

@@ -1,3 +1,4 @@
+//! Names of native hosts.
 ghost use Rattle.std.specs.Prelude.{◌≡◌, ◌↔◌, ℕ, IsTrue, IsNone, IfOk, IfSome, OnOk, Some};
 ghost use Rattle.wx_id.specs.HostNames as names;
 
