@@ -107,6 +107,6 @@ host_of file bytes = if_object (object_of bytes) (host_in file)
 abbrev pub admits : Host → List ℕ → Bool
 admits host id = list_any (λ origin. bytes_eq origin (origin_of id)) host.origins
 
--- the words that a host is started with behind its path
+-- the words that a host is started with after its path
 abbrev pub arguments_of : List ℕ → List (List ℕ)
 arguments_of id = origin_of id ∷ []

@@ -5,7 +5,7 @@ use std::alloc::Global;
 use std::marker::Model;
 use wx_id::{ExtensionId, NoMemory};
 
-/// The words that a host is started with behind its path. Contracts see the list of their texts.
+/// The words that a host is started with after its path. Contracts see the list of their texts.
 #[derive(Debug, Drop)]
 pub struct Arguments {
     texts: Vec<String>,

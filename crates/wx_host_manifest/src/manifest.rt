@@ -112,7 +112,7 @@ impl HostManifest {
         self.callers.contains(id)
     }
 
-    /// The words that the host is started with behind its path, for this caller.
+    /// The words that the host is started with after its path, for this caller.
     pub fn arguments(&self, alloc: Global, caller: &ExtensionId) -> Result<Arguments, NoMemory>
         ensures { IfOk result (λ arguments. arguments ≡ arguments_of caller.now) }
     {

@@ -1,2 +1,3 @@
 pub mod HostNameLemmas
 pub mod IdLemmas
+pub mod OptionLemmas

@@ -1,2 +1,4 @@
 pub mod HostNames
 pub mod Ids
+pub mod Options
+pub mod Results

@@ -128,7 +128,7 @@ impl JsonCheck {
         }
     }
 
-    /// Takes bytes up to and with the next that asks for more than a state; all that are left, behind a fault.
+    /// Takes bytes up to and with the next that asks for more than a state; all that are left, after a fault.
     #[inline(always)]
     fn part(&mut self, piece: &[u8], from: usize) -> usize
         requires room { taken self.old + length piece.now < 2 ^ 63 + from }
@@ -282,7 +282,7 @@ impl JsonCheck {
     }
 }
 
-/// The state behind a comma in the innermost container, or 0 where none is open.
+/// The state after a comma in the innermost container, or 0 where none is open.
 #[tactic(auto, unfolding(crate::specs::States::is_state))]
 #[inline(always)]
 fn after_comma(kinds: &[u64], depth: usize) -> u8

@@ -5,7 +5,7 @@ pub enum PatternKind {
     Scheme,
     /// Behind `://`, where neither of the others applies.
     Host,
-    /// The text ends behind a whole host, and the path is missing.
+    /// The text ends after a whole host, and the path is missing.
     Path,
 }
 

@@ -66,7 +66,7 @@ impl FrameReader {
         if have == 0 { Ok(()) } else { Err(Cut { have }) }
     }
 
-    /// How many bytes are missing of the four of the length or, behind these, of the text; 0 after a fault.
+    /// How many bytes are missing of the four of the length or, after these, of the text; 0 after a fault.
     pub fn wanted(&self) -> u32
         ensures head { length self.now.bytes < 4 → result + length self.now.bytes ≡ 4 }
         ensures text { 4 ≤ length self.now.bytes → IsUnderWay self.now.bytes self.now.limit →

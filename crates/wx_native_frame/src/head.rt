@@ -40,7 +40,7 @@ impl Head {
         self.len
     }
 
-    /// The same bytes with more behind them.
+    /// The same bytes with more after them.
     pub(crate) fn with(&self, more: &[u8]) -> Head
         requires { length self.now + length more.now ≤ 4 }
         ensures { result ≡ self.now ++ more.now }

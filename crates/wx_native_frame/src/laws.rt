@@ -19,7 +19,7 @@ pub fn one_split()
         IsSplit limit stream texts rest → IsTrouble (rest ++ more) limit f → IsSplit limit (stream ++ more) texts (rest ++ more) }
 {}
 
-/// Bytes and a piece behind them have at most one of the answers of `FrameReader::step`, want of memory left aside: a
+/// Bytes and a piece after them have at most one of the answers of `FrameReader::step`, want of memory left aside: a
 /// frame ends in one place with one text, and then there is no trouble; and all trouble is one.
 pub fn one_answer()
     ensures frame { (limit : ℕ) (bytes piece : List ℕ) (used other : ℕ) (t u : List ℕ) →

@@ -7,8 +7,6 @@ ghost use Rattle.wx_native_frame.specs.Frames.{length_bytes, frame};
 mod frame_reader;
 mod head;
 mod laws;
-#[cfg(test)]
-mod tests;
 mod text;
 
 use byteorder::{ByteOrder, LittleEndian};

@@ -55,7 +55,7 @@ web_again : (d : Document) → IsDocument d → web_at (document_spelling d) ≡
 unfolding web_at
 web_again d h = rw (document_again d h) refl
 
--- a context by its word and what stands behind the endpoint's name
+-- a context by its word and what stands after the endpoint's name
 context_again : (head name more : List ℕ) (c : NamedContext) → IsTrue (is_name name) → context_with head more ≡ Some c → endpoint_with head (name ␣ more) ≡ Some (endpoint name c)
 unfolding endpoint_with
 context_again head name more c h read = rw (name_again name more h, read) refl

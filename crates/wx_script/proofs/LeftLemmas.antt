@@ -46,7 +46,7 @@ unended_first past variables (a ∷ acts) =
       | Some b ↦ λ is. ap (λ b. is_end (next_or_end past b)) is ∙ unended_next past b
     ] refl
 
--- nothing comes next only behind the `leave`
+-- nothing comes next only after the `leave`
 pub end_is_left : (past : List Entry) (p : Place) → is_end (next_at past p) ≡ is_left p
 end_is_left past outside = refl
 end_is_left past (within unbegun acts variables) = unended_first past variables acts
@@ -54,7 +54,7 @@ end_is_left past (within (echoing n) acts variables) = refl
 end_is_left past (within (answering n came e) acts variables) = unended_answer came (text_of past e)
 end_is_left past left = refl
 
--- an act that begins with something is not left behind by one entry
+-- an act that begins with something is not left after by one entry
 await_stays : (variables : Variables) (a : Act) (acts : List Act) (event : Option Event) → is_left (behind_await variables a acts event) ≡ false
 await_stays variables a acts None = refl
 await_stays variables a acts (Some event) =
@@ -131,7 +131,7 @@ steps script past c (within (answering n came m) acts variables) e may =
     no_leave script (within (answering n came m) acts variables) e (answer_no_leave past c e came (text_of past m) may) (stays_in_echo n acts variables) refl
 steps script past c left e may = absurd may
 
--- ---- behind all entries
+-- ---- after all entries
 
 -- a script has ended where its context has left, and one that was begun came in
 pub record Agrees (script : List Command) (c : ContextNo) (past : List Entry) : Type 0 where

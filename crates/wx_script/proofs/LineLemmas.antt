@@ -94,7 +94,7 @@ host_read text l e =
     let q = cond_some _ _ _ e in
     subst (λ l. IsReadAs l (codes "host" ␣ text)) q.1 (record { is_line = q.0; spelled = refl })
 
--- a context by its word and what stands behind the endpoint's name
+-- a context by its word and what stands after the endpoint's name
 record IsReadAsContext (c : NamedContext) (head text : List ℕ) : Type 0 where
   is_context : IsNamedContext c
   spelled : (name : List ℕ) → head ␣ name ␣ text ≡ endpoint_spelling name c

@@ -1,4 +1,4 @@
--- A word and what stands behind it.
+-- A word and what stands after it.
 use Rattle.std.proofs.Common.{◌≡◌, ◌≢◌, ℕ, suc, ◌+◌, Bool, true, false, not, ◌&&◌, cond, List, [], ◌∷◌, ◌++◌, length, refl, subst, ap, ◌∙◌, arith, Option, None, Some}
 use Rattle.std.specs.Prelude.{◌==◌, IsTrue, nat_le, nat_lt}
 use Rattle.std.specs.List.{list_all}
@@ -37,7 +37,7 @@ rest-behind (b ∷ w) more h =
       | false ↦ λ h. rest-behind w more h
     ] h
 
--- a text is its first word and what stands behind it
+-- a text is its first word and what stands after it
 pub parts : (text : List ℕ) → text ≡ word text ++ behind (rest text)
 parts [] = refl
 parts (b ∷ bs) =
@@ -154,7 +154,7 @@ behind_slash-none (b ∷ bs) none =
 pub file_name-no_slash : (file : List ℕ) → ((k : ℕ) → k < length file → get_or file k 0 ≢ 47) → file_name file ≡ file
 file_name-no_slash file none = rw (behind_slash-none file none) refl
 
--- what stands behind a `/` of a text is a text
+-- what stands after a `/` of a text is a text
 pub utf8_behind_slash : (text front more : List ℕ) → text ≡ front ++ 47 ∷ more → IsUtf8 text → IsUtf8 more
 utf8_behind_slash text front more is utf8 =
     let whole : IsUtf8 (front ++ 47 ∷ more) = subst IsUtf8 is utf8 in

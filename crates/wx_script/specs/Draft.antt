@@ -84,7 +84,7 @@ context_of extensions (web document) = do
   url ← web_url document.url
   Ok (Web document.tab document.frame url)
 
--- an endpoint without commands is put behind the others
+-- an endpoint without commands is put after the others
 abbrev pub endpoint_pushed : Draft → List ℕ → Context → Result Draft SceneKind
 endpoint_pushed d name context =
     if nat_le 1024 (length d.endpoints) then Err kind.Many
@@ -102,7 +102,7 @@ abbrev pub place_or_next : Option ℕ → List (List ℕ) → ℕ
 place_or_next None variables = length variables
 place_or_next (Some n) variables = n
 
--- the variable that a command binds: a new one is numbered behind those of its sort that the script binds already
+-- the variable that a command binds: a new one is numbered after those of its sort that the script binds already
 abbrev pub bound : List ℕ → List (List ℕ) → Var
 bound name variables = var (place_or_next (place_in name variables) variables)
 
@@ -170,7 +170,7 @@ act_of extensions variables take_one = Ok act.Take
 act_of extensions variables (await_event awaited name) = await_of variables awaited name
 act_of extensions variables (echo n) = Ok (act.Echo n)
 
--- the variables behind an act
+-- the variables after an act
 abbrev pub variables_after : VariableNames → NamedAct → VariableNames
 variables_after variables (connect name target port) = record variables { channels = binding name variables.channels }
 variables_after variables (await_event event.Connect name) = record variables { channels = binding name variables.channels }

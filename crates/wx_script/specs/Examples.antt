@@ -151,7 +151,7 @@ Natives =
     ∷ Plain (act.Post (var 1) (codes "1")) ∷ Plain (act.AwaitReply (var 0)) ∷ [])
     ∷ [])
 
--- each target, and what may stand behind it
+-- each target, and what may stand after it
 abbrev pub targets : List (List ℕ)
 targets =
     extension_x ∷ codes "page p x /p"
@@ -187,7 +187,7 @@ Documents =
     (record { name = codes "c"; context = Content id_a (tab_id 7) (frame_id 1) first; script = [] }
     ∷ record { name = codes "w"; context = Web (tab_id 7) (frame_id 0) second; script = [] } ∷ [])
 
--- a text that is read as no web URL is refused, but behind an undeclared extension and a repeated name
+-- a text that is read as no web URL is refused, but after an undeclared extension and a repeated name
 abbrev pub NoWebUrl : Type 0
 NoWebUrl =
     web_url_of (codes "ftp://a.b/") ≡ None

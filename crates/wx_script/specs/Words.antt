@@ -10,12 +10,12 @@ abbrev pub word : List ℕ → List ℕ
 word [] = []
 word (b ∷ bs) = if b == 32 then [] else b ∷ word bs
 
--- what stands behind the first space, if there is one
+-- what stands after the first space, if there is one
 abbrev pub rest : List ℕ → Option (List ℕ)
 rest [] = None
 rest (b ∷ bs) = if b == 32 then Some bs else rest bs
 
--- a space and what stands behind it, if there is something
+-- a space and what stands after it, if there is something
 abbrev pub behind : Option (List ℕ) → List ℕ
 behind None = []
 behind (Some text) = 32 ∷ text
@@ -68,11 +68,11 @@ abbrev pub is_comment : List ℕ → Bool
 is_comment [] = true
 is_comment (b ∷ bs) = b == 35
 
--- what stands behind the last `/`, if there is one
+-- what stands after the last `/`, if there is one
 abbrev pub behind_slash : List ℕ → Option (List ℕ)
 behind_slash [] = None
 behind_slash (b ∷ bs) = option_or (behind_slash bs) (if b == 47 then Some bs else None)
 
--- a file's own name: the part behind the last `/`, which is the whole where there is none
+-- a file's own name: the part after the last `/`, which is the whole where there is none
 abbrev pub file_name : List ℕ → List ℕ
 file_name file = unwrap_or (behind_slash file) file

@@ -53,7 +53,7 @@ impl Names {
         self.names.len()
     }
 
-    /// Adds a name behind the others, where it is not among them.
+    /// Adds a name after the others, where it is not among them.
     pub(crate) fn add(&mut self, alloc: Global, name: &str) -> Result<(), AllocError>
         ensures ok { OnOk result (self.new ≡ binding name.now self.old) }
         ensures err { OnErr result (self.new ≡ self.old) }

@@ -4,7 +4,7 @@ use std::test::Fail;
 use wx_context::Context;
 use wx_id::Utf8Text;
 
-/// How a scene with these lines behind its head line is read.
+/// How a scene with these lines after its head line is read.
 fn read_behind_head(alloc: Global, lines: &str) -> Result<Scene, SceneReadFault> {
     let mut bytes = match Vec::from_slice(alloc, b"wx scene 1 chrome\n") {
         Ok(bytes) => bytes,

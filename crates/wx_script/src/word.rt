@@ -8,7 +8,7 @@ ghost use Rattle.wx_script.specs.Line as forms;
 use wx_context::{are_printable, is_page_path};
 use wx_id::{FrameId, TabId};
 
-/// The bytes up to the first space, and what stands behind that space.
+/// The bytes up to the first space, and what stands after that space.
 pub(crate) fn split_word(text: &[u8]) -> (&[u8], Option<&[u8]>)
     ensures word { result.0.now ≡ words.word text.now }
     ensures rest { option_map (λ rest. rest.now) result.1 ≡ words.rest text.now }
@@ -64,7 +64,7 @@ pub(crate) fn name(word: &[u8]) -> Option<&str>
     }
 }
 
-/// A name with more behind it.
+/// A name with more after it.
 #[tactic(auto, unfolding(crate::specs::Line::name_at))]
 pub(crate) fn name_and_rest(text: &[u8]) -> Option<(&str, &[u8])>
     ensures { option_map (λ found. (found.0.now, found.1.now)) result ≡ forms.name_at text.now }
@@ -95,7 +95,7 @@ pub(crate) fn word_text(word: &[u8]) -> Option<&str>
     }
 }
 
-/// The part of a file's name behind the last `/`, which is the whole where there is none.
+/// The part of a file's name after the last `/`, which is the whole where there is none.
 pub fn file_name(file: &str) -> &str
     ensures { result.now ≡ words.file_name file.now }
 {

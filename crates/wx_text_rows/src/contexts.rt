@@ -1,6 +1,8 @@
-use crate::{Context, Listens, PagePath, PathFault, Sender, Target, UrlFault, WebUrl};
+//! Contexts, their paths and URLs, and the senders that others see.
+use crate::crosses_threads;
 use std::alloc::Global;
 use std::test::Fail;
+use wx_context::{Context, Listens, PagePath, PathFault, Sender, Target, UrlFault, WebUrl};
 use wx_id::{ExtensionId, FrameId, NoMemory, TabId};
 
 const LETTERS: &str = "abcdefghijklmnopabcdefghijklmnop";
@@ -124,8 +126,6 @@ fn senders_of_contexts(rt: HostRuntime) -> Result<(), Fail> {
     }
     Ok(())
 }
-
-fn crosses_threads<T: Send + Sync>() {}
 
 #[test]
 fn types_cross_threads(_rt: HostRuntime) {

@@ -1,8 +1,9 @@
-use crate::{Pattern, PatternFault, PatternKind, PatternReadFault};
+//! Match patterns, the URLs that they meet, and their faults.
 use std::alloc::Global;
 use std::process::Abort;
 use std::test::Fail;
 use url::Url;
+use wx_match_pattern::{Pattern, PatternFault, PatternKind, PatternReadFault};
 
 /// Reads the pattern and the URL, and says whether they match.
 fn meets(alloc: Global, pattern: &str, address: &str) -> Result<bool, Fail> {
@@ -28,7 +29,7 @@ fn crosses_threads<T: Send + Sync>(_value: &T) {}
 fn a_pattern_crosses_threads(rt: HostRuntime) -> Result<(), Fail> {
     let pattern = Pattern::read(rt.alloc(), "<all_urls>")?;
     crosses_threads(&pattern);
-    crate::one_pattern_or_fault();
+    wx_match_pattern::one_pattern_or_fault();
     Ok(())
 }
 

@@ -1,8 +1,10 @@
-use crate::{Extension, Key, ManifestFault};
+//! Manifests of extensions.
+use crate::crosses_threads;
 use std::alloc::Global;
 use std::test::Fail;
 use url::Url;
 use wx_id::ExtensionId;
+use wx_manifest::{Extension, Key, ManifestFault};
 use wx_match_pattern::{PatternFault, PatternKind};
 
 fn fault_of(alloc: Global, text: &str) -> Option<ManifestFault> {
@@ -273,9 +275,7 @@ fn what_a_manifest_holds(rt: HostRuntime) -> Result<(), Fail> {
     Ok(())
 }
 
-fn crosses_threads<T: Send + Sync>() {}
-
 #[test]
 fn types_cross_threads(_rt: HostRuntime) {
-    crosses_threads::<crate::Extension>();
+    crosses_threads::<wx_manifest::Extension>();
 }

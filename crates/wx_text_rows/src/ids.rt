@@ -1,8 +1,10 @@
-use crate::{
+//! The ids, names and texts of `wx_id`.
+use crate::crosses_threads;
+use std::test::Fail;
+use wx_id::{
     BadId, ChannelNo, ContextNo, End, EntryNo, Event, EventKind, ExtensionId, FrameId, HostName,
     HostNameFault, HostNo, NoMemory, RequestNo, TabId, Utf8Text,
 };
-use std::test::Fail;
 
 #[test]
 fn extension_ids(rt: HostRuntime) {
@@ -39,8 +41,6 @@ fn texts(rt: HostRuntime) -> Result<(), Fail> {
     Ok(())
 }
 
-fn crosses_threads<T: Send + Sync>() {}
-
 #[test]
 fn types_cross_threads() {
     crosses_threads::<ExtensionId>();
@@ -59,4 +59,49 @@ fn types_cross_threads() {
     crosses_threads::<EventKind>();
     crosses_threads::<Event>();
     crosses_threads::<End>();
+}
+
+#[test]
+fn places_of_host_names(rt: HostRuntime) {
+    let table = [
+        ("a", None),
+        ("a.b_1", None),
+        ("com.example.echo", None),
+        ("0", None),
+        (".a", Some(0)),
+        ("a..b", Some(2)),
+        ("A", Some(0)),
+        ("a.", Some(2)),
+        ("", Some(0)),
+        ("a-b", Some(1)),
+        ("a b", Some(1)),
+        ("abc.é", Some(4)),
+    ];
+    for (text, place) in table {
+        assert_eq!(rt; HostName::fault(text.as_bytes()), place);
+    }
+}
+
+#[test]
+fn the_last_place_of_a_host_name(rt: HostRuntime) {
+    let mut bytes = [b'a'; 251];
+    assert_eq!(rt; HostName::fault(&bytes[..250]), None);
+    assert_eq!(rt; HostName::fault(&bytes), Some(250));
+    bytes[249] = b'.';
+    assert_eq!(rt; HostName::fault(&bytes[..250]), Some(249));
+    assert_eq!(rt; HostName::fault(&bytes), Some(249));
+    assert_eq!(rt; HostName::fault(&bytes[..249]), None);
+    bytes[248] = b'.';
+    assert_eq!(rt; HostName::fault(&bytes[..249]), Some(249));
+}
+
+#[test]
+fn host_names_are_read(rt: HostRuntime) -> Result<(), Fail> {
+    let name = HostName::read(rt.alloc(), b"a.b_1")?;
+    assert_eq!(rt; name.text(), "a.b_1");
+    match HostName::read(rt.alloc(), b"a..b") {
+        Ok(_) => assert!(rt; false),
+        Err(fault) => assert_eq!(rt; fault, HostNameFault::BadHostName { place: 2 }),
+    }
+    Ok(())
 }

@@ -1,8 +1,9 @@
-use crate::{Cut, FrameFault, FrameReader, Step, frame_into};
+//! Native frames, and streams of them in pieces.
 use std::alloc::Global;
 use std::process::Abort;
 use std::test::Fail;
 use wx_json::{JsonFault, JsonKind, JsonText};
+use wx_native_frame::{Cut, FrameFault, FrameReader, Step, frame_into};
 
 /// Steps to the end of the piece or to a fault, and writes each text and a bar.
 fn feed(reader: &mut FrameReader, piece: &[u8], texts: &mut Vec<u8>) -> Result<(), FrameFault> {
@@ -34,7 +35,7 @@ fn feed_bytes(
     Ok(())
 }
 
-/// What a stream gives: its texts, each with a bar behind it, the fault that ends it, and the bytes in hand then.
+/// What a stream gives: its texts, each with a bar after it, the fault that ends it, and the bytes in hand then.
 #[derive(Drop)]
 struct Want<'a> {
     texts: &'a [u8],

@@ -1,8 +1,10 @@
+//! Texts of JSON, their faults, and their pieces.
 ghost use Rattle.std.specs.Prelude.{◌≤◌, length};
 
-use crate::{JsonCheck, JsonFault, JsonKind, JsonText, check};
+use crate::crosses_threads;
 use std::process::Abort;
 use std::test::Fail;
+use wx_json::{JsonCheck, JsonFault, JsonKind, JsonText, check};
 
 fn bytewise(bytes: &[u8]) -> Result<(), JsonFault> {
     let mut check = JsonCheck::new();
@@ -185,8 +187,6 @@ fn a_text_from_its_check(rt: HostRuntime) -> Result<(), Fail> {
     }
     Ok(())
 }
-
-fn crosses_threads<T: Send + Sync>() {}
 
 #[test]
 fn types_cross_threads() {

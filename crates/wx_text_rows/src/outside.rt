@@ -1,10 +1,11 @@
-use crate::{
-    Failed, FileShelf, Found, MemoryFile, MemoryShelf, MemorySink, Shelf, ShelfFault, Sink,
-    StreamSink,
-};
+//! Files and sinks, in memory and of the system.
 use std::alloc::Global;
 use std::test::Fail;
 use std::{fs, io};
+use wx_outside::{
+    Failed, FileShelf, Found, MemoryFile, MemoryShelf, MemorySink, Shelf, ShelfFault, Sink,
+    StreamSink,
+};
 
 /// What a read answers, without the bytes' place in memory: the first byte and the length, or the word for it.
 fn told<F: Shelf>(alloc: Global, shelf: &mut F, name: &str) -> (&'static str, usize) {

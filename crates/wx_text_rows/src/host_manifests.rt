@@ -1,6 +1,8 @@
-use crate::{HostFault, HostKey, HostManifest};
+//! Manifests of native hosts.
+use crate::crosses_threads;
 use std::alloc::{AllocError, Global};
 use std::test::Fail;
+use wx_host_manifest::{HostFault, HostKey, HostManifest};
 use wx_id::ExtensionId;
 
 const A: &[u8] = b"aaaaaaaaaaaaaaaaaaaaaaaaaaaaaaaa";
@@ -208,10 +210,8 @@ fn what_a_manifest_holds(rt: HostRuntime) -> Result<(), Fail> {
     Ok(())
 }
 
-fn crosses_threads<T: Send + Sync>() {}
-
 #[test]
 fn types_cross_threads(_rt: HostRuntime) {
-    crosses_threads::<crate::HostManifest>();
-    crosses_threads::<crate::Arguments>();
+    crosses_threads::<wx_host_manifest::HostManifest>();
+    crosses_threads::<wx_host_manifest::Arguments>();
 }

@@ -1,7 +1,9 @@
-use crate::{AddFault, Installed, NativeVerdict, Rule, Verdict, World, gate, native_gate};
+//! Who may reach whom.
+use crate::crosses_threads;
 use std::alloc::Global;
 use std::test::Fail;
 use wx_context::{Context, PagePath, Target, WebUrl};
+use wx_external::{AddFault, Installed, NativeVerdict, Rule, Verdict, World, gate, native_gate};
 use wx_host_manifest::HostManifest;
 use wx_id::{ExtensionId, FrameId, TabId};
 use wx_manifest::Extension;
@@ -227,8 +229,6 @@ fn a_second_extension_of_one_id(rt: HostRuntime) -> Result<(), Fail> {
     assert!(rt; world.extension(&ExtensionId::read(B)?).is_none());
     Ok(())
 }
-
-fn crosses_threads<T: Send + Sync>() {}
 
 #[test]
 fn types_cross_threads(_rt: HostRuntime) {
