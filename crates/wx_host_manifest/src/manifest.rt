@@ -1,3 +1,4 @@
+//! The manifest of a native host.
 ghost use Rattle.std.specs.Prelude.{◌≡◌, ◌≢◌, map, IfOk, IfErr, IsTrue};
 ghost use Rattle.std.specs.List.{list_all};
 ghost use Rattle.wx_host_manifest.specs.Origins.{origin_of, is_origin};
@@ -41,9 +42,7 @@ fn callers_of(alloc: Global, origins: &Texts<'_>) -> Result<Vec<ExtensionId>, No
         let Some(caller) = read_origin(origins.at(place)) else {
             unreachable!()
         };
-        if callers.push(caller).is_err() {
-            return Err(NoMemory);
-        }
+        callers.push(caller)?;
     }
     Ok(callers)
 }

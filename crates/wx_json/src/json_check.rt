@@ -1,3 +1,4 @@
+//! The check of a JSON text that comes in pieces.
 ghost use Rattle.std.specs.Prelude.{◌≡◌, ℕ, ◌+◌, ◌*◌, ◌-◌, ◌^◌, ◌<◌, ◌≤◌, ◌++◌, Bool, true, length, List, [], MatchResult, take, drop, get_or};
 ghost use Rattle.wx_json.specs.Text.{IsJsonText, IsPrefixOfJson, IsFault, IsEndFault};
 ghost use Rattle.wx_json.specs.States.{is_state, is_end, CommaLeads, coding_of, entered, went, opened, closed_empty, closed, separated, refused};
@@ -162,7 +163,8 @@ impl JsonCheck {
         ensures running { IsRunning self.new }
         ensures count { taken self.new + from ≡ taken self.old + result.at }
         ensures entry { result.entry < 64 }
-        ensures next { result.at < length piece.now → entered result.entry self.new ≡ advance self.new (get_or piece.now result.at 0) }
+        ensures next { result.at < length piece.now
+            → entered result.entry self.new ≡ advance self.new (get_or piece.now result.at 0) }
     {
         let after_comma = after_comma(&self.kinds, self.depth);
         let stop = travel(self.state, after_comma, piece, from);

@@ -118,7 +118,8 @@ fn transition(state: usize, c: u8) -> u8
     requires { is_state state ≡ true }
     ensures state { 64 ≤ result → is_state result ≡ true }
     ensures value { (k n : ℕ) (σ : List Bool) →
-        entered result (running k (coding_of state) (mode_of state) n σ) ≡ advance (running k (coding_of state) (mode_of state) n σ) c }
+        entered result (running k (coding_of state) (mode_of state) n σ)
+        ≡ advance (running k (coding_of state) (mode_of state) n σ) c }
 {
     TRANSITIONS[CLASSES[c as usize] as usize - b'0' as usize][state - 64]
 }

@@ -1,3 +1,4 @@
+//! Where and why a text is no pattern.
 /// The part of a pattern in which a fault lies.
 #[derive(Clone, Copy, Debug, PartialEq, Eq)]
 pub enum PatternKind {

@@ -1,3 +1,4 @@
+//! Paths with `*` for any run of characters.
 ghost use Rattle.std.specs.Prelude.{◌≡◌, ◌↔◌, ◌∷◌, ◌<◌, ◌≤◌, ◌^◌, IsTrue, length};
 ghost use Rattle.wx_match_pattern.specs.Globs.{Globs, star};
 ghost use Rattle.wx_match_pattern.specs.Run.{run_of, IsWithin};

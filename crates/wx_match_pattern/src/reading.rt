@@ -1,3 +1,4 @@
+//! Reading a pattern: its parts, or its first fault.
 ghost use Rattle.std.specs.Prelude.{◌≡◌, ◌≤◌, ◌+◌, false, IfOk, IfSome, length, drop};
 ghost use Rattle.wx_match_pattern.specs.Answers.{Gives};
 ghost use Rattle.wx_match_pattern.specs.Pattern.{is_label_byte, scheme_head};

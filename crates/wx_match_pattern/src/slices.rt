@@ -1,3 +1,4 @@
+//! The rest of a slice.
 ghost use Rattle.std.specs.Prelude.{◌≡◌, ◌≤◌, length, drop};
 
 /// The bytes after the first ones.

@@ -1,3 +1,4 @@
+//! The four bytes of a frame's length, as they come.
 ghost use Rattle.std.specs.Prelude.{◌≡◌, ℕ, ◌+◌, ◌<◌, ◌≤◌, ◌++◌, [], length, take, slice_index};
 ghost use Rattle.wx_native_frame.specs.Frames.{told_length, length_bytes};
 

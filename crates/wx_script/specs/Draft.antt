@@ -1,5 +1,6 @@
 -- The scene so far, and what one more line makes of it.
 use Rattle.std.specs.Prelude.{ℕ, not, List, [], ◌∷◌, ◌++◌, length, Option, Some, None, ok_or, Result, Ok, Err, ◌==◌, nat_le, if◌then◌else◌}
+use Rattle.wx_id.specs.Results.{◌>>=◌}
 use Rattle.wx_id.specs.Ids.{is_extension_id}
 use Rattle.wx_context.specs.declared.contexts.Context.{Context}
 use Rattle.wx_context.specs.declared.contexts.Context.TheVariants.{Page, Content, Web}
@@ -40,11 +41,6 @@ no_variables = record { channels = []; asked = []; received = [] }
 -- nothing is declared
 abbrev pub fresh : Draft
 fresh = record { extensions = []; hosts = []; files = []; endpoints = []; variables = no_variables }
-
-infixl 10 ◌>>=◌
-abbrev pub ◌>>=◌ : {A B : Type 0} → Result A SceneKind → (A → Result B SceneKind) → Result B SceneKind
-(Ok x) >>= f = f x
-(Err k) >>= f = Err k
 
 -- ---- declarations: each test in its order
 

@@ -3,10 +3,12 @@ use Rattle.std.specs.Prelude.{ℕ, Bool, true, false, ◌&&◌, List, [], Option
 use Rattle.std.specs.Str.{bytes_eq}
 use Rattle.std.specs.Str.Parse.{digits_value}
 use Rattle.std.specs.List.{starts_with}
+use Rattle.wx_id.specs.Options.{◌>>=◌, where_so}
 use Rattle.wx_id.specs.declared.numbers.TabId.{TabId}
 use Rattle.wx_id.specs.declared.numbers.FrameId.{FrameId}
 use Rattle.wx_context.specs.declared.contexts.Listens.{Listens}
 use Rattle.wx_context.specs.Paths.{is_page_path}
+use Rattle.wx_machine.specs.Contexts.{deaf}
 use Rattle.wx_script.specs.declared.line.Awaited.{Awaited}
 use Rattle.wx_script.specs.declared.line.Awaited.TheVariants as event
 use Rattle.wx_script.specs.Words.{word, rest, is_name, is_word, is_number, is_small, is_count, is_given, is_comment}
@@ -58,15 +60,6 @@ pub data Line : Type 0 where
   host : List ℕ → Line
   endpoint : List ℕ → NamedContext → Line
   script : NamedCommand → Line
-
-infixl 10 ◌>>=◌
-abbrev pub ◌>>=◌ : {A B : Type 0} → Option A → (A → Option B) → Option B
-None >>= f = None
-(Some x) >>= f = f x
-
--- the value, where the test holds
-abbrev pub where_so : {A : Type 0} → Bool → A → Option A
-where_so b x = if b then Some x else None
 
 -- ---- names and numbers
 
@@ -191,13 +184,9 @@ flags_at text =
     let external_messages = flag_at (codes "external-message") external_connects.1 in
     (record { connect = connects.0; message = messages.0; external_connect = external_connects.0; external_message = external_messages.0 }, external_messages.1)
 
--- to nothing
-abbrev pub listens_to_nothing : Listens
-listens_to_nothing = record { connect = false; message = false; external_connect = false; external_message = false }
-
 -- none | one flag or more
 unfoldable pub listen_at : List ℕ → Option NamedAct
-listen_at text = if bytes_eq text (codes "none") then Some (listen listens_to_nothing) else where_so (is_none (flags_at text).1) (listen (flags_at text).0)
+listen_at text = if bytes_eq text (codes "none") then Some (listen deaf) else where_so (is_none (flags_at text).1) (listen (flags_at text).0)
 
 -- ---- targets, with what stands after the next space, if there is one
 

@@ -4,6 +4,7 @@ use Rattle.std.specs.List.{list_all}
 use Rattle.std.specs.Option.{option_or, unwrap_or}
 use Rattle.std.specs.Str.{bytes_eq}
 use Rattle.wx_context.specs.Paths.{is_printable}
+use Rattle.wx_id.specs.HostNames.{is_word_byte}
 
 -- the bytes up to the first space
 abbrev pub word : List ℕ → List ℕ
@@ -32,14 +33,10 @@ is_given (b ∷ bs) = true
 abbrev pub is_letter : ℕ → Bool
 is_letter b = nat_le 97 b && nat_le b 122
 
--- `a` to `z`, `0` to `9`, `_`
-abbrev pub is_name_byte : ℕ → Bool
-is_name_byte b = is_letter b || is_digit b || b == 95
-
 -- a letter, and up to 31 bytes more
 abbrev pub is_identifier : List ℕ → Bool
 is_identifier [] = false
-is_identifier (b ∷ bs) = is_letter b && list_all is_name_byte bs && nat_lt (length bs) 32
+is_identifier (b ∷ bs) = is_letter b && list_all is_word_byte bs && nat_lt (length bs) 32
 
 -- the name of an extension, an endpoint or a variable: `same` is none
 abbrev pub is_name : List ℕ → Bool

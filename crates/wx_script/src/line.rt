@@ -1,3 +1,4 @@
+//! Which line a text is, by its words alone.
 ghost use Rattle.std.specs.Prelude.{◌≡◌, IfSome, IfNone, option_copied};
 ghost use Rattle.std.specs.Option.{option_map};
 ghost use Rattle.wx_script.specs.Line as forms;

@@ -1,3 +1,4 @@
+//! Names that are found by their hash.
 ghost use Rattle.std.specs.Prelude.{◌≡◌, ◌<◌, [], length, IfSome, OnOk, OnErr};
 ghost use Rattle.wx_script.specs.Names.{place_in, is_among, binding};
 ghost use Rattle.wx_script.specs.Draft.{no_variables};

@@ -1,3 +1,4 @@
+//! Reading a scene line by line.
 ghost use Rattle.std.specs.Prelude.{◌≡◌, ◌<◌, ◌^◌, length, OnOk, IfErr};
 ghost use Rattle.wx_script.specs.Adding.{so_far, IsIndexed, MakesDraft};
 ghost use Rattle.wx_script.specs.Draft.{fresh};

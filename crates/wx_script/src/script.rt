@@ -1,3 +1,4 @@
+//! A script: the commands of one endpoint.
 ghost use Rattle.std.specs.Prelude.{◌≡◌, [], ◌∷◌, ◌++◌, length, slice_get, option_copied, OnOk, OnErr};
 
 use std::alloc::{AllocError, Global};

@@ -1,12 +1,15 @@
+//! Words, names and numbers of a line.
 ghost use Rattle.std.specs.Prelude.{◌≡◌};
 ghost use Rattle.std.specs.List.{list_all};
 ghost use Rattle.std.specs.Option.{option_map};
 ghost use Rattle.wx_context.specs.Paths as texts;
+ghost use Rattle.wx_id.specs.HostNames.{is_word_byte};
+ghost use Rattle.wx_id.specs.Options.{where_so};
 ghost use Rattle.wx_script.specs.Words as words;
 ghost use Rattle.wx_script.specs.Line as forms;
 
 use wx_context::{are_printable, is_page_path};
-use wx_id::{FrameId, TabId};
+use wx_id::{FrameId, TabId, is_word_byte};
 
 /// The bytes up to the first space, and what stands after that space.
 pub(crate) fn split_word(text: &[u8]) -> (&[u8], Option<&[u8]>)
@@ -21,16 +24,10 @@ pub(crate) fn split_word(text: &[u8]) -> (&[u8], Option<&[u8]>)
     (text, None)
 }
 
-fn is_name_byte(byte: u8) -> bool
-    ensures { result ≡ words.is_name_byte byte }
-{
-    byte.is_ascii_lowercase() || byte.is_ascii_digit() || byte == b'_'
-}
-
 fn are_name_bytes(text: &[u8]) -> bool
-    ensures { result ≡ list_all words.is_name_byte text.now }
+    ensures { result ≡ list_all is_word_byte text.now }
 {
-    text.iter().all(|byte| is_name_byte(*byte))
+    text.iter().all(|byte| is_word_byte(*byte))
 }
 
 fn is_identifier(text: &[u8]) -> bool
@@ -53,7 +50,7 @@ fn is_name(text: &[u8]) -> bool
 /// The name that a word is.
 #[tactic(auto, using(crate::proofs::WordLemmas::names_are_utf8))]
 pub(crate) fn name(word: &[u8]) -> Option<&str>
-    ensures { option_map (λ name. name.now) result ≡ forms.where_so (words.is_name word.now) word.now }
+    ensures { option_map (λ name. name.now) result ≡ where_so (words.is_name word.now) word.now }
 {
     if !is_name(word) {
         return None;
@@ -84,7 +81,7 @@ pub(crate) fn is_word(text: &[u8]) -> bool
 /// The text of a word: a file, a URL, a port name or a host's name.
 #[tactic(auto, using(crate::proofs::WordLemmas::words_are_utf8))]
 pub(crate) fn word_text(word: &[u8]) -> Option<&str>
-    ensures { option_map (λ text. text.now) result ≡ forms.where_so (words.is_word word.now) word.now }
+    ensures { option_map (λ text. text.now) result ≡ where_so (words.is_word word.now) word.now }
 {
     if !is_word(word) {
         return None;
@@ -107,9 +104,9 @@ pub fn file_name(file: &str) -> &str
 }
 
 /// The path that a word is.
-#[tactic(auto, using(crate::proofs::WordLemmas::paths_are_utf8))]
+#[tactic(auto, using(wx_context::proofs::PathLemmas::paths_are_utf8))]
 pub(crate) fn path(word: &[u8]) -> Option<&str>
-    ensures { option_map (λ path. path.now) result ≡ forms.where_so (texts.is_page_path word.now) word.now }
+    ensures { option_map (λ path. path.now) result ≡ where_so (texts.is_page_path word.now) word.now }
 {
     if !is_page_path(word) {
         return None;

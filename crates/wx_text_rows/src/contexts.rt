@@ -7,18 +7,21 @@ use wx_id::{ExtensionId, FrameId, NoMemory, TabId};
 
 const LETTERS: &str = "abcdefghijklmnopabcdefghijklmnop";
 
+/// A text, and whether it is the path of a page.
+const PATHS: &[(&str, bool)] = &[
+    ("/p", true),
+    ("/", true),
+    ("/a/b?c#d~", true),
+    ("p", false),
+    ("/a b", false),
+    ("", false),
+    ("/\u{e9}", false),
+    ("/\u{7f}", false),
+];
+
 #[test]
 fn page_paths(rt: HostRuntime) {
-    for (text, good) in [
-        ("/p", true),
-        ("/", true),
-        ("/a/b?c#d~", true),
-        ("p", false),
-        ("/a b", false),
-        ("", false),
-        ("/\u{e9}", false),
-        ("/\u{7f}", false),
-    ] {
+    for &(text, good) in PATHS {
         match PagePath::read(rt.alloc(), text) {
             Ok(path) => assert!(rt; good && path.text() == text),
             Err(fault) => assert!(rt; !good && fault == PathFault::BadPath),
@@ -26,26 +29,29 @@ fn page_paths(rt: HostRuntime) {
     }
 }
 
+/// A text, and the own text of the web URL that it is.
+const URLS: &[(&str, Option<&str>)] = &[
+    ("https://a.b/f", Some("https://a.b/f")),
+    ("http://a.b", Some("http://a.b/")),
+    ("HTTPS://A.B:443/x?q#y", Some("https://a.b/x?q#y")),
+    (" http://a.b:81/a b ", Some("http://a.b:81/a%20b")),
+    ("file:///x", None),
+    ("ftp://a.b/", None),
+    ("ws://a.b/", None),
+    (
+        "chrome-extension://abcdefghijklmnopabcdefghijklmnop/p",
+        None,
+    ),
+    ("http://a.b:99999/", None),
+    ("https://", None),
+    ("/f", None),
+    ("a.b", None),
+    ("", None),
+];
+
 #[test]
 fn web_urls_are_http_and_https_alone(rt: HostRuntime) {
-    for (text, own) in [
-        ("https://a.b/f", Some("https://a.b/f")),
-        ("http://a.b", Some("http://a.b/")),
-        ("HTTPS://A.B:443/x?q#y", Some("https://a.b/x?q#y")),
-        (" http://a.b:81/a b ", Some("http://a.b:81/a%20b")),
-        ("file:///x", None),
-        ("ftp://a.b/", None),
-        ("ws://a.b/", None),
-        (
-            "chrome-extension://abcdefghijklmnopabcdefghijklmnop/p",
-            None,
-        ),
-        ("http://a.b:99999/", None),
-        ("https://", None),
-        ("/f", None),
-        ("a.b", None),
-        ("", None),
-    ] {
+    for &(text, own) in URLS {
         match WebUrl::read(rt.alloc(), text) {
             Ok(url) => assert_eq!(rt; Some(url.url().as_str()), own),
             Err(fault) => assert!(rt; own.is_none() && fault == UrlFault::BadUrl),

@@ -1,4 +1,5 @@
 //! Native frames, and streams of them in pieces.
+use crate::crosses_threads;
 use std::alloc::Global;
 use std::process::Abort;
 use std::test::Fail;
@@ -100,70 +101,56 @@ fn judge(
     judge_bytes(rt, alloc, bytes, &want);
 }
 
-fn bad(place: u64, kind: JsonKind) -> Result<(), FrameFault> {
-    Err(FrameFault::BadJson(JsonFault { place, kind }))
-}
+const SYNTAX_AT_0: Result<(), FrameFault> = Err(FrameFault::BadJson(JsonFault {
+    place: 0,
+    kind: JsonKind::Syntax,
+}));
+
+const SYNTAX_AT_2: Result<(), FrameFault> = Err(FrameFault::BadJson(JsonFault {
+    place: 2,
+    kind: JsonKind::Syntax,
+}));
+
+const ENDS_AT_0: Result<(), FrameFault> = Err(FrameFault::BadJson(JsonFault {
+    place: 0,
+    kind: JsonKind::Ends,
+}));
+
+const ENDS_AT_1: Result<(), FrameFault> = Err(FrameFault::BadJson(JsonFault {
+    place: 1,
+    kind: JsonKind::Ends,
+}));
+
+const LONG: Result<(), FrameFault> = Err(FrameFault::TooLong { len: 1_048_577 });
+
+/// A stream, its texts with a bar after each, the fault that ends it, and the bytes in hand then.
+const STREAMS: &[(&[u8], &[u8], Result<(), FrameFault>, u64)] = &[
+    (b"\x02\x00\x00\x00{}", b"{}|", Ok(()), 0),
+    (b"\x02", b"", Ok(()), 1),
+    (b"\x02\x00", b"", Ok(()), 2),
+    (b"\x02\x00\x00", b"", Ok(()), 3),
+    (b"\x02\x00\x00\x00", b"", Ok(()), 4),
+    (b"\x02\x00\x00\x00{", b"", Ok(()), 5),
+    (b"\x03\x00\x00\x00{}}", b"", SYNTAX_AT_2, 7),
+    (b"\x02\x00\x00\x00}}", b"", SYNTAX_AT_0, 5),
+    (b"\x02\x00\x00\x00{}\x01\x00\x00\x001", b"{}|1|", Ok(()), 0),
+    (b"\x00\x00\x00\x00", b"", ENDS_AT_0, 4),
+    (b"\x01\x00\x00\x00[", b"", ENDS_AT_1, 5),
+    (b"\x01\x00\x10\x00", b"", LONG, 4),
+    (b"\x01\x00\x10\x00\"", b"", LONG, 4),
+];
 
 #[test]
-fn streams(rt: HostRuntime) -> Result<(), Fail> {
-    let alloc = rt.alloc();
-    let whole = b"\x02\x00\x00\x00{}";
-    judge(&rt, alloc, whole, b"{}|", Ok(()), 0);
-    for len in 1..6usize {
-        judge(&rt, alloc, &whole[..len], b"", Ok(()), len as u64);
+fn streams(rt: HostRuntime) {
+    for &(bytes, texts, end, have) in STREAMS {
+        judge(&rt, rt.alloc(), bytes, texts, end, have);
     }
-    judge(
-        &rt,
-        alloc,
-        b"\x03\x00\x00\x00{}}",
-        b"",
-        bad(2, JsonKind::Syntax),
-        7,
-    );
-    judge(
-        &rt,
-        alloc,
-        b"\x02\x00\x00\x00}}",
-        b"",
-        bad(0, JsonKind::Syntax),
-        5,
-    );
-    judge(
-        &rt,
-        alloc,
-        b"\x02\x00\x00\x00{}\x01\x00\x00\x001",
-        b"{}|1|",
-        Ok(()),
-        0,
-    );
-    judge(
-        &rt,
-        alloc,
-        b"\x00\x00\x00\x00",
-        b"",
-        bad(0, JsonKind::Ends),
-        4,
-    );
-    judge(
-        &rt,
-        alloc,
-        b"\x01\x00\x00\x00[",
-        b"",
-        bad(1, JsonKind::Ends),
-        5,
-    );
-    let long = FrameFault::TooLong { len: 1_048_577 };
-    judge(&rt, alloc, b"\x01\x00\x10\x00", b"", Err(long), 4);
-    judge(&rt, alloc, b"\x01\x00\x10\x00\"", b"", Err(long), 4);
-    Ok(())
 }
 
-fn crosses_threads<T: Send + Sync>(_value: &T) {}
-
 #[test]
-fn bytes_behind_a_frame_stay(rt: HostRuntime) -> Result<(), Fail> {
+fn bytes_after_a_frame_stay(rt: HostRuntime) -> Result<(), Fail> {
     let mut reader = FrameReader::new(rt.alloc(), 1_048_576);
-    crosses_threads(&reader);
+    crosses_threads::<FrameReader>();
     for (piece, used, text, wanted) in [
         (
             b"\x02\x00\x00\x00{}\x01\x00\x00\x001" as &[u8],

@@ -16,6 +16,8 @@ const EXTERNAL: Verdict = Verdict::Open { external: true };
 
 const INTERNAL: Verdict = Verdict::Open { external: false };
 
+const BAD: Verdict = Verdict::BadTarget;
+
 const NO_ID: Verdict = Verdict::Forbidden(Rule::Id);
 
 const NO_URL: Verdict = Verdict::Forbidden(Rule::Url);
@@ -71,27 +73,30 @@ fn world_with(alloc: Global, manifest: &str) -> Result<World, Fail> {
     }
 }
 
+/// A manifest of extension A, and what a page of B, a page of A, and the web pages https://a.b/x and https://c.d/x
+/// get for a call to A.
+const BY_MANIFEST: &[(&str, [Verdict; 4])] = &[
+    (
+        r#"{"manifest_version":3,"name":"x","version":"1"}"#,
+        [EXTERNAL, INTERNAL, NO_URL, NO_URL],
+    ),
+    (
+        r#"{"manifest_version":3,"name":"x","version":"1","externally_connectable":{}}"#,
+        [NO_ID, INTERNAL, NO_URL, NO_URL],
+    ),
+    (
+        r#"{"manifest_version":3,"name":"x","version":"1","externally_connectable":{"ids":["*"]}}"#,
+        [EXTERNAL, INTERNAL, NO_URL, NO_URL],
+    ),
+    (
+        r#"{"manifest_version":3,"name":"x","version":"1","externally_connectable":{"matches":["*://*.a.b/*"]}}"#,
+        [NO_ID, INTERNAL, EXTERNAL, NO_URL],
+    ),
+];
+
 #[test]
 fn verdicts_on_calls_to_an_extension(rt: HostRuntime) -> Result<(), Fail> {
     let alloc = rt.alloc();
-    let table = [
-        (
-            r#"{"manifest_version":3,"name":"x","version":"1"}"#,
-            [EXTERNAL, INTERNAL, NO_URL, NO_URL],
-        ),
-        (
-            r#"{"manifest_version":3,"name":"x","version":"1","externally_connectable":{}}"#,
-            [NO_ID, INTERNAL, NO_URL, NO_URL],
-        ),
-        (
-            r#"{"manifest_version":3,"name":"x","version":"1","externally_connectable":{"ids":["*"]}}"#,
-            [EXTERNAL, INTERNAL, NO_URL, NO_URL],
-        ),
-        (
-            r#"{"manifest_version":3,"name":"x","version":"1","externally_connectable":{"matches":["*://*.a.b/*"]}}"#,
-            [NO_ID, INTERNAL, EXTERNAL, NO_URL],
-        ),
-    ];
     let target = Target::Other(ExtensionId::read(A)?);
     let callers = [
         Caller::Page(B),
@@ -99,7 +104,7 @@ fn verdicts_on_calls_to_an_extension(rt: HostRuntime) -> Result<(), Fail> {
         Caller::Web("https://a.b/x"),
         Caller::Web("https://c.d/x"),
     ];
-    for (manifest, verdicts) in table {
+    for &(manifest, verdicts) in BY_MANIFEST {
         let world = world_with(alloc, manifest)?;
         for (caller, verdict) in callers.iter().zip(verdicts) {
             let caller = context_of(alloc, *caller)?;
@@ -108,6 +113,19 @@ fn verdicts_on_calls_to_an_extension(rt: HostRuntime) -> Result<(), Fail> {
     }
     Ok(())
 }
+
+/// A caller, and what it gets for a call to its own extension, to A, to B, to tab 7 and to frame 0 of it.
+const BY_CALLER: &[(Caller, [Verdict; 5])] = &[
+    (
+        Caller::Page(A),
+        [INTERNAL, INTERNAL, EXTERNAL, INTERNAL, INTERNAL],
+    ),
+    (Caller::Script, [INTERNAL, INTERNAL, BAD, BAD, BAD]),
+    (
+        Caller::Web("https://a.b/x"),
+        [BAD, NO_URL, NO_URL, BAD, BAD],
+    ),
+];
 
 #[test]
 fn verdicts_of_each_sort_of_caller(rt: HostRuntime) -> Result<(), Fail> {
@@ -120,19 +138,7 @@ fn verdicts_of_each_sort_of_caller(rt: HostRuntime) -> Result<(), Fail> {
         Target::Tab(TabId(7), None),
         Target::Tab(TabId(7), Some(FrameId(0))),
     ];
-    let bad = Verdict::BadTarget;
-    let table = [
-        (
-            Caller::Page(A),
-            [INTERNAL, INTERNAL, EXTERNAL, INTERNAL, INTERNAL],
-        ),
-        (Caller::Script, [INTERNAL, INTERNAL, bad, bad, bad]),
-        (
-            Caller::Web("https://a.b/x"),
-            [bad, NO_URL, NO_URL, bad, bad],
-        ),
-    ];
-    for (caller, verdicts) in table {
+    for &(caller, verdicts) in BY_CALLER {
         let caller = context_of(alloc, caller)?;
         for (target, verdict) in targets.iter().zip(verdicts) {
             assert_eq!(rt; gate(&world, &caller, target), verdict);
@@ -161,6 +167,17 @@ fn host_f(alloc: Global) -> Result<HostManifest, Fail> {
     )
 }
 
+/// A caller, the name of a host, and the verdict.
+const NATIVE: &[(Caller, &str, NativeVerdict)] = &[
+    (Caller::Script, "E", NativeVerdict::BadTarget),
+    (Caller::Web("https://a.b/"), "E", NativeVerdict::BadTarget),
+    (Caller::Page(B), "E", NativeVerdict::NoPermission),
+    (Caller::Page(A), "E", NativeVerdict::BadHostName),
+    (Caller::Page(A), "g", NativeVerdict::HostNotFound),
+    (Caller::Page(A), "f", NativeVerdict::HostForbidden),
+    (Caller::Page(A), "e", NativeVerdict::Open(1)),
+];
+
 #[test]
 fn native_verdicts(rt: HostRuntime) -> Result<(), Fail> {
     let alloc = rt.alloc();
@@ -170,16 +187,7 @@ fn native_verdicts(rt: HostRuntime) -> Result<(), Fail> {
     )?;
     assert!(rt; world.add_host(host_f(alloc)?).is_ok());
     assert!(rt; world.add_host(host_e(alloc)?).is_ok());
-    let table = [
-        (Caller::Script, "E", NativeVerdict::BadTarget),
-        (Caller::Web("https://a.b/"), "E", NativeVerdict::BadTarget),
-        (Caller::Page(B), "E", NativeVerdict::NoPermission),
-        (Caller::Page(A), "E", NativeVerdict::BadHostName),
-        (Caller::Page(A), "g", NativeVerdict::HostNotFound),
-        (Caller::Page(A), "f", NativeVerdict::HostForbidden),
-        (Caller::Page(A), "e", NativeVerdict::Open(1)),
-    ];
-    for (caller, name, verdict) in table {
+    for &(caller, name, verdict) in NATIVE {
         let caller = context_of(alloc, caller)?;
         assert_eq!(rt; native_gate(&world, &caller, name), verdict);
     }

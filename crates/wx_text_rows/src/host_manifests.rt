@@ -16,124 +16,128 @@ fn fault_of(alloc: Global, file_name: &str, bytes: &[u8]) -> Option<HostFault> {
     }
 }
 
+/// What stands in `a.json`, and its fault.
+const FIRST_KEYS: &[(&str, Option<HostFault>)] = &[
+    (
+        r#"{"name":"a","description":"","path":"/","type":"stdio","allowed_origins":[]}"#,
+        None,
+    ),
+    (
+        r#" { "type":"stdio" , "x":[{"y":null}], "allowed_origins":[],"path":"/b","description":"d","name":"a" } "#,
+        None,
+    ),
+    (
+        r#"{"name":"b","name":"a","description":1,"description":"d","path":"/b","type":"stdio","allowed_origins":[]}"#,
+        None,
+    ),
+    ("", Some(HostFault::NotJson)),
+    ("[]", Some(HostFault::NotJson)),
+    (r#""a""#, Some(HostFault::NotJson)),
+    (
+        r#"{"name":"a","description":"d","path":"/b","type":"stdio","allowed_origins":[],}"#,
+        Some(HostFault::NotJson),
+    ),
+    ("\u{feff}{}", Some(HostFault::NotJson)),
+    (r#"{"name":"a","x":"\ud800"}"#, Some(HostFault::NotJson)),
+    (r#"{"name":"a","x":1e400}"#, Some(HostFault::NotJson)),
+    ("{}", Some(HostFault::Missing(HostKey::Name))),
+    (r#"{"name":1}"#, Some(HostFault::WrongKind(HostKey::Name))),
+    (
+        r#"{"name":"a","name":null}"#,
+        Some(HostFault::WrongKind(HostKey::Name)),
+    ),
+    (r#"{"name":"A"}"#, Some(HostFault::BadName { place: 0 })),
+    (r#"{"name":"a..b"}"#, Some(HostFault::BadName { place: 2 })),
+    (r#"{"name":""}"#, Some(HostFault::BadName { place: 0 })),
+    (
+        r#"{"name":"b","path":"bin/x"}"#,
+        Some(HostFault::NameDiffers),
+    ),
+    (r#"{"name":"a.json"}"#, Some(HostFault::NameDiffers)),
+    (
+        r#"{"name":"a","path":1}"#,
+        Some(HostFault::Missing(HostKey::Description)),
+    ),
+    (
+        r#"{"name":"a","description":["d"]}"#,
+        Some(HostFault::WrongKind(HostKey::Description)),
+    ),
+    (
+        r#"{"name":"a","description":"d","type":"pipe"}"#,
+        Some(HostFault::Missing(HostKey::Path)),
+    ),
+    (
+        r#"{"name":"a","description":"d","path":{}}"#,
+        Some(HostFault::WrongKind(HostKey::Path)),
+    ),
+];
+
 #[test]
 fn manifests_in_a_json(rt: HostRuntime) {
-    let table = [
-        (
-            r#"{"name":"a","description":"","path":"/","type":"stdio","allowed_origins":[]}"#,
-            None,
-        ),
-        (
-            r#" { "type":"stdio" , "x":[{"y":null}], "allowed_origins":[],"path":"/b","description":"d","name":"a" } "#,
-            None,
-        ),
-        (
-            r#"{"name":"b","name":"a","description":1,"description":"d","path":"/b","type":"stdio","allowed_origins":[]}"#,
-            None,
-        ),
-        ("", Some(HostFault::NotJson)),
-        ("[]", Some(HostFault::NotJson)),
-        (r#""a""#, Some(HostFault::NotJson)),
-        (
-            r#"{"name":"a","description":"d","path":"/b","type":"stdio","allowed_origins":[],}"#,
-            Some(HostFault::NotJson),
-        ),
-        ("\u{feff}{}", Some(HostFault::NotJson)),
-        (r#"{"name":"a","x":"\ud800"}"#, Some(HostFault::NotJson)),
-        (r#"{"name":"a","x":1e400}"#, Some(HostFault::NotJson)),
-        ("{}", Some(HostFault::Missing(HostKey::Name))),
-        (r#"{"name":1}"#, Some(HostFault::WrongKind(HostKey::Name))),
-        (
-            r#"{"name":"a","name":null}"#,
-            Some(HostFault::WrongKind(HostKey::Name)),
-        ),
-        (r#"{"name":"A"}"#, Some(HostFault::BadName { place: 0 })),
-        (r#"{"name":"a..b"}"#, Some(HostFault::BadName { place: 2 })),
-        (r#"{"name":""}"#, Some(HostFault::BadName { place: 0 })),
-        (
-            r#"{"name":"b","path":"bin/x"}"#,
-            Some(HostFault::NameDiffers),
-        ),
-        (r#"{"name":"a.json"}"#, Some(HostFault::NameDiffers)),
-        (
-            r#"{"name":"a","path":1}"#,
-            Some(HostFault::Missing(HostKey::Description)),
-        ),
-        (
-            r#"{"name":"a","description":["d"]}"#,
-            Some(HostFault::WrongKind(HostKey::Description)),
-        ),
-        (
-            r#"{"name":"a","description":"d","type":"pipe"}"#,
-            Some(HostFault::Missing(HostKey::Path)),
-        ),
-        (
-            r#"{"name":"a","description":"d","path":{}}"#,
-            Some(HostFault::WrongKind(HostKey::Path)),
-        ),
-    ];
-    for (text, fault) in table {
+    for &(text, fault) in FIRST_KEYS {
         assert_eq!(rt; fault_of(rt.alloc(), "a.json", text.as_bytes()), fault);
     }
 }
 
+/// What stands in `a.json`, and its fault.
+const LATER_KEYS: &[(&str, Option<HostFault>)] = &[
+    (
+        r#"{"name":"a","description":"d","path":"bin/x","type":"stdio","allowed_origins":[]}"#,
+        Some(HostFault::NotAbsolute),
+    ),
+    (
+        r#"{"name":"a","description":"d","path":"","type":1}"#,
+        Some(HostFault::NotAbsolute),
+    ),
+    (
+        r#"{"name":"a","description":"d","path":"/b"}"#,
+        Some(HostFault::Missing(HostKey::Kind)),
+    ),
+    (
+        r#"{"name":"a","description":"d","path":"/b","type":true}"#,
+        Some(HostFault::WrongKind(HostKey::Kind)),
+    ),
+    (
+        r#"{"name":"a","description":"d","path":"/b","type":"STDIO","allowed_origins":1}"#,
+        Some(HostFault::NotStdio),
+    ),
+    (
+        r#"{"name":"a","description":"d","path":"/b","type":"stdio"}"#,
+        Some(HostFault::Missing(HostKey::Origins)),
+    ),
+    (
+        r#"{"name":"a","description":"d","path":"/b","type":"stdio","allowed_origins":{}}"#,
+        Some(HostFault::WrongKind(HostKey::Origins)),
+    ),
+    (
+        r#"{"name":"a","description":"d","path":"/b","type":"stdio","allowed_origins":["x",1]}"#,
+        Some(HostFault::WrongKind(HostKey::Origins)),
+    ),
+    (
+        r#"{"name":"a","description":"d","path":"/b","type":"stdio","allowed_origins":["x"]}"#,
+        Some(HostFault::BadOrigin(0)),
+    ),
+    (
+        r#"{"name":"a","description":"d","path":"/b","type":"stdio","allowed_origins":["chrome-extension://aaaaaaaaaaaaaaaaaaaaaaaaaaaaaaaa"]}"#,
+        Some(HostFault::BadOrigin(0)),
+    ),
+    (
+        r#"{"name":"a","description":"d","path":"/b","type":"stdio","allowed_origins":["chrome-extension://aaaaaaaaaaaaaaaaaaaaaaaaaaaaaaaa/","chrome-extension://qaaaaaaaaaaaaaaaaaaaaaaaaaaaaaaa/"]}"#,
+        Some(HostFault::BadOrigin(1)),
+    ),
+    (
+        r#"{"name":"a","description":"d","path":"/b","type":"stdio","allowed_origins":["chrome-extension://aaaaaaaaaaaaaaaaaaaaaaaaaaaaaaaa//"]}"#,
+        Some(HostFault::BadOrigin(0)),
+    ),
+    (
+        r#"{"name":"a","description":"d","path":"/b","type":"stdio","allowed_origins":["chrome-extension://*/"]}"#,
+        Some(HostFault::BadOrigin(0)),
+    ),
+];
+
 #[test]
 fn the_later_keys(rt: HostRuntime) {
-    let table = [
-        (
-            r#"{"name":"a","description":"d","path":"bin/x","type":"stdio","allowed_origins":[]}"#,
-            Some(HostFault::NotAbsolute),
-        ),
-        (
-            r#"{"name":"a","description":"d","path":"","type":1}"#,
-            Some(HostFault::NotAbsolute),
-        ),
-        (
-            r#"{"name":"a","description":"d","path":"/b"}"#,
-            Some(HostFault::Missing(HostKey::Kind)),
-        ),
-        (
-            r#"{"name":"a","description":"d","path":"/b","type":true}"#,
-            Some(HostFault::WrongKind(HostKey::Kind)),
-        ),
-        (
-            r#"{"name":"a","description":"d","path":"/b","type":"STDIO","allowed_origins":1}"#,
-            Some(HostFault::NotStdio),
-        ),
-        (
-            r#"{"name":"a","description":"d","path":"/b","type":"stdio"}"#,
-            Some(HostFault::Missing(HostKey::Origins)),
-        ),
-        (
-            r#"{"name":"a","description":"d","path":"/b","type":"stdio","allowed_origins":{}}"#,
-            Some(HostFault::WrongKind(HostKey::Origins)),
-        ),
-        (
-            r#"{"name":"a","description":"d","path":"/b","type":"stdio","allowed_origins":["x",1]}"#,
-            Some(HostFault::WrongKind(HostKey::Origins)),
-        ),
-        (
-            r#"{"name":"a","description":"d","path":"/b","type":"stdio","allowed_origins":["x"]}"#,
-            Some(HostFault::BadOrigin(0)),
-        ),
-        (
-            r#"{"name":"a","description":"d","path":"/b","type":"stdio","allowed_origins":["chrome-extension://aaaaaaaaaaaaaaaaaaaaaaaaaaaaaaaa"]}"#,
-            Some(HostFault::BadOrigin(0)),
-        ),
-        (
-            r#"{"name":"a","description":"d","path":"/b","type":"stdio","allowed_origins":["chrome-extension://aaaaaaaaaaaaaaaaaaaaaaaaaaaaaaaa/","chrome-extension://qaaaaaaaaaaaaaaaaaaaaaaaaaaaaaaa/"]}"#,
-            Some(HostFault::BadOrigin(1)),
-        ),
-        (
-            r#"{"name":"a","description":"d","path":"/b","type":"stdio","allowed_origins":["chrome-extension://aaaaaaaaaaaaaaaaaaaaaaaaaaaaaaaa//"]}"#,
-            Some(HostFault::BadOrigin(0)),
-        ),
-        (
-            r#"{"name":"a","description":"d","path":"/b","type":"stdio","allowed_origins":["chrome-extension://*/"]}"#,
-            Some(HostFault::BadOrigin(0)),
-        ),
-    ];
-    for (text, fault) in table {
+    for &(text, fault) in LATER_KEYS {
         assert_eq!(rt; fault_of(rt.alloc(), "a.json", text.as_bytes()), fault);
     }
     let bytes = b"{\"name\":\"a\",\"description\":\"\x80\"}";
@@ -143,20 +147,22 @@ fn the_later_keys(rt: HostRuntime) {
     );
 }
 
+/// A file with the manifest of host `a`, and its fault.
+const FILES: &[(&str, Option<HostFault>)] = &[
+    ("a.json", None),
+    ("b.json", Some(HostFault::NameDiffers)),
+    ("a", Some(HostFault::NameDiffers)),
+    ("a.JSON", Some(HostFault::NameDiffers)),
+    ("a.json.json", Some(HostFault::NameDiffers)),
+    (".json", Some(HostFault::NameDiffers)),
+    ("", Some(HostFault::NameDiffers)),
+];
+
 #[test]
 fn names_of_files(rt: HostRuntime) {
     let manifest =
         br#"{"name":"a","description":"d","path":"/b","type":"stdio","allowed_origins":[]}"#;
-    let table = [
-        ("a.json", None),
-        ("b.json", Some(HostFault::NameDiffers)),
-        ("a", Some(HostFault::NameDiffers)),
-        ("a.JSON", Some(HostFault::NameDiffers)),
-        ("a.json.json", Some(HostFault::NameDiffers)),
-        (".json", Some(HostFault::NameDiffers)),
-        ("", Some(HostFault::NameDiffers)),
-    ];
-    for (file_name, fault) in table {
+    for &(file_name, fault) in FILES {
         assert_eq!(rt; fault_of(rt.alloc(), file_name, manifest), fault);
     }
 }

@@ -61,23 +61,25 @@ fn types_cross_threads() {
     crosses_threads::<End>();
 }
 
+/// A text, and where it goes wrong as a host name.
+const PLACES: &[(&str, Option<u64>)] = &[
+    ("a", None),
+    ("a.b_1", None),
+    ("com.example.echo", None),
+    ("0", None),
+    (".a", Some(0)),
+    ("a..b", Some(2)),
+    ("A", Some(0)),
+    ("a.", Some(2)),
+    ("", Some(0)),
+    ("a-b", Some(1)),
+    ("a b", Some(1)),
+    ("abc.é", Some(4)),
+];
+
 #[test]
 fn places_of_host_names(rt: HostRuntime) {
-    let table = [
-        ("a", None),
-        ("a.b_1", None),
-        ("com.example.echo", None),
-        ("0", None),
-        (".a", Some(0)),
-        ("a..b", Some(2)),
-        ("A", Some(0)),
-        ("a.", Some(2)),
-        ("", Some(0)),
-        ("a-b", Some(1)),
-        ("a b", Some(1)),
-        ("abc.é", Some(4)),
-    ];
-    for (text, place) in table {
+    for &(text, place) in PLACES {
         assert_eq!(rt; HostName::fault(text.as_bytes()), place);
     }
 }

@@ -23,6 +23,16 @@ fn in_two(bytes: &[u8], cut: usize) -> Result<(), JsonFault>
     check.finish()
 }
 
+/// Bytes, and the place and the kind of their fault, if they are no text.
+type Row = (&'static [u8], Option<(u64, JsonKind)>);
+
+fn verdict(fault: Option<(u64, JsonKind)>) -> Result<(), JsonFault> {
+    match fault {
+        None => Ok(()),
+        Some((place, kind)) => at(place, kind),
+    }
+}
+
 /// In one piece, byte by byte and at each cut into two.
 fn judged(rt: &impl Abort, bytes: &[u8], want: Result<(), JsonFault>) {
     assert!(rt; check(bytes) == want);
@@ -32,78 +42,81 @@ fn judged(rt: &impl Abort, bytes: &[u8], want: Result<(), JsonFault>) {
     }
 }
 
+fn judged_each(rt: &impl Abort, rows: &[Row]) {
+    for (bytes, fault) in rows {
+        judged(rt, bytes, verdict(*fault));
+    }
+}
+
 fn at(place: u64, kind: JsonKind) -> Result<(), JsonFault> {
     Err(JsonFault { place, kind })
 }
 
-#[test]
-fn faults_and_ends(rt: HostRuntime) -> Result<(), Fail> {
-    judged(&rt, b"[1,]", at(3, JsonKind::Syntax));
-    judged(&rt, b"tru", at(3, JsonKind::Ends));
-    judged(&rt, b"", at(0, JsonKind::Ends));
-    judged(&rt, b"}}", at(0, JsonKind::Syntax));
-    judged(&rt, b"{}}", at(2, JsonKind::Syntax));
-    judged(&rt, &[0xEF, 0xBB, 0xBF, 0x31], at(0, JsonKind::Syntax));
-    judged(&rt, &[0x22, 0x80, 0x22], at(1, JsonKind::Utf8));
-    judged(&rt, &[0xFF], at(0, JsonKind::Utf8));
-    judged(&rt, &[0x22, 0xED, 0xA0], at(2, JsonKind::Utf8));
-    judged(&rt, &[0x22, 0xC0, 0x80], at(1, JsonKind::Utf8));
-    Ok(())
-}
+const FAULTS_AND_ENDS: &[Row] = &[
+    (b"[1,]", Some((3, JsonKind::Syntax))),
+    (b"tru", Some((3, JsonKind::Ends))),
+    (b"", Some((0, JsonKind::Ends))),
+    (b"}}", Some((0, JsonKind::Syntax))),
+    (b"{}}", Some((2, JsonKind::Syntax))),
+    (b"\xEF\xBB\xBF1", Some((0, JsonKind::Syntax))),
+    (b"\"\x80\"", Some((1, JsonKind::Utf8))),
+    (b"\xFF", Some((0, JsonKind::Utf8))),
+    (b"\"\xED\xA0", Some((2, JsonKind::Utf8))),
+    (b"\"\xC0\x80", Some((1, JsonKind::Utf8))),
+];
 
-#[test]
-fn numbers(rt: HostRuntime) -> Result<(), Fail> {
-    judged(&rt, b"-0", Ok(()));
-    judged(&rt, b"0.0", Ok(()));
-    judged(&rt, b"1e5", Ok(()));
-    judged(&rt, b"01", at(1, JsonKind::Syntax));
-    judged(&rt, b"1.", at(2, JsonKind::Ends));
-    judged(&rt, b".5", at(0, JsonKind::Syntax));
-    judged(&rt, b"-", at(1, JsonKind::Ends));
-    judged(&rt, b"1e", at(2, JsonKind::Ends));
-    judged(&rt, b"1e+", at(3, JsonKind::Ends));
-    judged(
-        &rt,
+const NUMBERS: &[Row] = &[
+    (b"-0", None),
+    (b"0.0", None),
+    (b"1e5", None),
+    (b"01", Some((1, JsonKind::Syntax))),
+    (b"1.", Some((2, JsonKind::Ends))),
+    (b".5", Some((0, JsonKind::Syntax))),
+    (b"-", Some((1, JsonKind::Ends))),
+    (b"1e", Some((2, JsonKind::Ends))),
+    (b"1e+", Some((3, JsonKind::Ends))),
+    (
         b"[12345678901234567890.12345678901234567890e+12345678901234567890]",
-        Ok(()),
-    );
-    judged(
-        &rt,
+        None,
+    ),
+    (
         b"[1234567890123456789012345678901234567890:]",
-        at(41, JsonKind::Syntax),
-    );
-    Ok(())
+        Some((41, JsonKind::Syntax)),
+    ),
+];
+
+const STRINGS_AND_WHITE_SPACE: &[Row] = &[
+    (b"\"\\ud800\"", None),
+    (b"\"\\uDC00 \\\"\\u00e9\"", None),
+    (b"\"\xC3\xA9\xE6\x97\xA5\xF0\x9F\xA6\x80\"", None),
+    (b" {\"a\\n\" : [1.5e-3, true, null, {}, [ ]] } ", None),
+    (b"[\n                                        1,\n  2]", None),
+    (
+        b"[1,\n                                        \x0B2]",
+        Some((44, JsonKind::Syntax)),
+    ),
+    (
+        b"{\"a\" \t\t\t\t\t\t\t\t\r\n\r\n\r\n\r\n    : \r\n\t                    {} \t\r\n                    }",
+        None,
+    ),
+];
+
+#[test]
+fn faults_and_ends(rt: HostRuntime) {
+    judged_each(&rt, FAULTS_AND_ENDS);
 }
 
 #[test]
-fn strings_and_white_space(rt: HostRuntime) -> Result<(), Fail> {
-    judged(&rt, b"\"\\ud800\"", Ok(()));
-    judged(&rt, b"\"\\uDC00 \\\"\\u00e9\"", Ok(()));
-    judged(&rt, "\"\u{e9}\u{65e5}\u{1f980}\"".as_bytes(), Ok(()));
-    judged(
-        &rt,
-        b" {\"a\\n\" : [1.5e-3, true, null, {}, [ ]] } ",
-        Ok(()),
-    );
-    judged(
-        &rt,
-        b"[\n                                        1,\n  2]",
-        Ok(()),
-    );
-    judged(
-        &rt,
-        b"[1,\n                                        \x0B2]",
-        at(44, JsonKind::Syntax),
-    );
-    judged(
-        &rt,
-        b"{\"a\" \t\t\t\t\t\t\t\t\r\n\r\n\r\n\r\n    : \r\n\t                    {} \t\r\n                    }",
-        Ok(()),
-    );
+fn numbers(rt: HostRuntime) {
+    judged_each(&rt, NUMBERS);
+}
+
+#[test]
+fn strings_and_white_space(rt: HostRuntime) {
+    judged_each(&rt, STRINGS_AND_WHITE_SPACE);
     for c in 0..0x20 {
         judged(&rt, &[b'"', c, b'"'], at(1, JsonKind::Syntax));
     }
-    Ok(())
 }
 
 /// A string of 70 bytes, with a control character at each place in turn.

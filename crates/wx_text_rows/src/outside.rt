@@ -18,6 +18,14 @@ fn told<F: Shelf>(alloc: Global, shelf: &mut F, name: &str) -> (&'static str, us
     }
 }
 
+/// A name, what a read of it answers, how many bytes, and how many reads have failed then.
+const MEMORY: &[(&str, &str, usize, u64)] = &[
+    ("s", "bytes", 3, 0),
+    ("t", "missing", 0, 0),
+    ("s", "failed", 0, 1),
+    ("s", "bytes", 3, 1),
+];
+
 #[test]
 fn files_in_memory(rt: HostRuntime) -> Result<(), Fail> {
     let alloc = rt.alloc();
@@ -33,18 +41,23 @@ fn files_in_memory(rt: HostRuntime) -> Result<(), Fail> {
             bytes: Vec::from_slice(alloc, text.as_bytes())?,
         })?;
     }
-    let expected = [
-        ("s", "bytes", 3, 0),
-        ("t", "missing", 0, 0),
-        ("s", "failed", 0, 1),
-        ("s", "bytes", 3, 1),
-    ];
-    for (name, answer, length, faults) in expected {
+    for &(name, answer, length, faults) in MEMORY {
         assert_eq!(rt; told(alloc, &mut shelf, name), (answer, length), "{name}");
         assert_eq!(rt; Shelf::faults(&shelf), faults, "{name}");
     }
     Ok(())
 }
+
+/// A name, what a read of it answers, how many bytes, and how many reads have failed then.
+const DISK: &[(&str, &str, usize, u64)] = &[
+    ("five", "bytes", 5, 0),
+    ("none", "missing", 0, 0),
+    ("", "missing", 0, 0),
+    ("limit", "bytes", 67108864, 0),
+    ("more", "large", 0, 0),
+    ("folder", "failed", 0, 1),
+    ("five/x", "failed", 0, 2),
+];
 
 #[test]
 fn files_on_disk(rt: HostRuntime) -> Result<(), Fail> {
@@ -57,21 +70,20 @@ fn files_on_disk(rt: HostRuntime) -> Result<(), Fail> {
     more.push(120)?;
     fs::write(&rt, "more", &more)?;
     let mut shelf = FileShelf::new(&rt);
-    let expected = [
-        ("five", "bytes", 5, 0),
-        ("none", "missing", 0, 0),
-        ("", "missing", 0, 0),
-        ("limit", "bytes", 67108864, 0),
-        ("more", "large", 0, 0),
-        ("folder", "failed", 0, 1),
-        ("five/x", "failed", 0, 2),
-    ];
-    for (name, answer, length, faults) in expected {
+    for &(name, answer, length, faults) in DISK {
         assert_eq!(rt; told(alloc, &mut shelf, name), (answer, length), "{name}");
         assert_eq!(rt; Shelf::faults(&shelf), faults, "{name}");
     }
     Ok(())
 }
+
+/// A piece, whether it is written, what the sink holds then, and how many writes have failed.
+const WRITES: &[(&str, bool, &str, u64)] = &[
+    ("abc", true, "abc", 0),
+    ("def", false, "abc", 1),
+    ("defg", false, "abcdef", 2),
+    ("", true, "abcdef", 2),
+];
 
 #[test]
 fn sinks(rt: HostRuntime) -> Result<(), Fail> {
@@ -83,13 +95,7 @@ fn sinks(rt: HostRuntime) -> Result<(), Fail> {
         writes: 0,
         faults: 0,
     };
-    let expected: [(&str, bool, &str, u64); 4] = [
-        ("abc", true, "abc", 0),
-        ("def", false, "abc", 1),
-        ("defg", false, "abcdef", 2),
-        ("", true, "abcdef", 2),
-    ];
-    for (piece, is_written, bytes, faults) in expected {
+    for &(piece, is_written, bytes, faults) in WRITES {
         assert_eq!(rt; sink.write(piece.as_bytes()).is_ok(), is_written, "{piece}");
         assert_eq!(rt; sink.bytes.as_slice(), bytes.as_bytes(), "{piece}");
         assert_eq!(rt; Sink::faults(&sink), faults, "{piece}");

@@ -18,17 +18,19 @@ fn keys_of_a_tree(rt: HostRuntime) -> Result<(), Fail> {
     Ok(())
 }
 
+/// Bytes that are no object.
+const NO_OBJECTS: &[&[u8]] = &[
+    b"",
+    b"[]",
+    b"1",
+    b"{} 1",
+    b"{\"a\":\"\xff\"}",
+    b"\xef\xbb\xbf{}",
+];
+
 #[test]
 fn bytes_without_a_tree(rt: HostRuntime) {
-    let table: [&[u8]; 6] = [
-        b"",
-        b"[]",
-        b"1",
-        b"{} 1",
-        b"{\"a\":\"\xff\"}",
-        b"\xef\xbb\xbf{}",
-    ];
-    for bytes in table {
+    for bytes in NO_OBJECTS {
         match read_object(rt.alloc(), bytes) {
             Ok(_) => assert!(rt; false),
             Err(fault) => assert_eq!(rt; fault, ReadFault::NotJson),

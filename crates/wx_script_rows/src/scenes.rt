@@ -1,11 +1,13 @@
-use crate::{Act, Command, Scene, SceneFile, SceneReadFault, file_name};
-use std::alloc::{AllocError, Global};
+//! Scenes that are read.
+use crate::{crosses_threads, pages};
+use std::alloc::Global;
 use std::test::Fail;
 use wx_context::Context;
 use wx_id::Utf8Text;
+use wx_script::{Act, Command, Scene, SceneFile, SceneReadFault, Script, file_name};
 
 /// How a scene with these lines after its head line is read.
-fn read_behind_head(alloc: Global, lines: &str) -> Result<Scene, SceneReadFault> {
+fn read_after_head(alloc: Global, lines: &str) -> Result<Scene, SceneReadFault> {
     let mut bytes = match Vec::from_slice(alloc, b"wx scene 1 chrome\n") {
         Ok(bytes) => bytes,
         Err(_) => return Err(SceneReadFault::NoMemory),
@@ -14,18 +16,6 @@ fn read_behind_head(alloc: Global, lines: &str) -> Result<Scene, SceneReadFault>
         Ok(()) => Scene::read(alloc, &bytes),
         Err(_) => Err(SceneReadFault::NoMemory),
     }
-}
-
-/// The head line, an extension, and so many of its pages.
-pub(crate) fn pages(alloc: Global, count: u64) -> Result<String, AllocError> {
-    let mut text = String::from_str(
-        alloc,
-        "wx scene 1 chrome\nextension x aaaaaaaaaaaaaaaaaaaaaaaaaaaaaaaa\n",
-    )?;
-    for i in 0..count {
-        text.push_str(&format!(in alloc; "page p{i} x /p\n")?)?;
-    }
-    Ok(text)
 }
 
 #[test]
@@ -49,100 +39,103 @@ fn sizes(read: Result<Scene, SceneReadFault>) -> Option<(u64, u64)> {
 
 const PAGE: &str = "wx scene 1 chrome\nextension x aaaaaaaaaaaaaaaaaaaaaaaaaaaaaaaa\npage p x /p\n";
 
+/// What stands above the lines, the lines, how many endpoints the scene has, and how many commands the last of them.
+const READ: &[(&str, &str, u64, u64)] = &[
+    ("", "wx scene 1 chrome", 0, 0),
+    ("", "wx scene 1 chrome\n", 0, 0),
+    ("", "wx scene 1 chrome\n\n", 0, 0),
+    ("", "wx scene 1 chrome\n# a comment", 0, 0),
+    ("", "wx scene 1 chrome\n#\n\n#\t\r\n", 0, 0),
+    (PAGE, "", 1, 0),
+    (PAGE, "  take", 1, 1),
+    (PAGE, "  take\n# a comment\n\n  take\n", 1, 2),
+    (
+        PAGE,
+        "extension y bbbbbbbbbbbbbbbbbbbbbbbbbbbbbbbb\n  take\n",
+        1,
+        1,
+    ),
+    (
+        PAGE,
+        "extension p bbbbbbbbbbbbbbbbbbbbbbbbbbbbbbbb\npage x p /\n",
+        2,
+        0,
+    ),
+    (PAGE, "page a2345678901234567890123456789012 x /p\n", 2, 0),
+    (PAGE, "  connect ch own name same\n", 1, 1),
+    (PAGE, "  connect ch own name own\n  post ch  1\n", 1, 2),
+    (
+        PAGE,
+        "  connect ch own\n  post ch {\"a\": [1, 2]} \r\n",
+        1,
+        2,
+    ),
+    (
+        PAGE,
+        "  await connect ch\n  await message ch\n  await close ch\n",
+        1,
+        3,
+    ),
+    (PAGE, "  echo 1\n  echo 1000000\n", 1, 2),
+    (
+        PAGE,
+        "  repeat 1 take\n  repeat 1000000 listen none\n",
+        1,
+        2,
+    ),
+    (PAGE, "  repeat 2 await connect ch\n  disconnect ch\n", 1, 2),
+    (PAGE, "host a/e.json\n  take\nhost e\n", 1, 1),
+    (PAGE, "content c x 7 0 https://a.b/f\n  take\n", 2, 1),
+    (PAGE, "web w 0 4294967295 http://a\n  take\n", 2, 1),
+    (PAGE, "  listen none\n  listen external-message\n", 1, 2),
+    (
+        PAGE,
+        "  listen connect message external-connect external-message\n",
+        1,
+        1,
+    ),
+    (
+        PAGE,
+        "  connect a ext x\n  connect a tab 7 name n\n  connect a tab 7 frame 0\n",
+        1,
+        3,
+    ),
+    (
+        PAGE,
+        "  send r own 1\n  await reply r\n  send r tab 7 frame 1 2\n",
+        1,
+        3,
+    ),
+    (
+        PAGE,
+        "  await request r\n  reply r  1\n  reply same r\n  decline r\n",
+        1,
+        4,
+    ),
+    (
+        PAGE,
+        "  native n com.example.echo\n  post n 1\n  await message n\n  disconnect n\n  await close n\n",
+        1,
+        5,
+    ),
+    (
+        PAGE,
+        "  ask r e 1\n  await reply r\n  repeat 2 ask r !~  [1] \r\n",
+        1,
+        3,
+    ),
+    (PAGE, "  native native ask\n  ask ask native 1\n", 1, 2),
+    (
+        PAGE,
+        "  native n same\n  native n E..\n  native n 07\n",
+        1,
+        3,
+    ),
+];
+
 #[test]
 fn scenes_that_are_read(rt: HostRuntime) -> Result<(), Fail> {
-    for (above, below, endpoints, commands) in [
-        ("", "wx scene 1 chrome", 0, 0),
-        ("", "wx scene 1 chrome\n", 0, 0),
-        ("", "wx scene 1 chrome\n\n", 0, 0),
-        ("", "wx scene 1 chrome\n# a comment", 0, 0),
-        ("", "wx scene 1 chrome\n#\n\n#\t\r\n", 0, 0),
-        (PAGE, "", 1, 0),
-        (PAGE, "  take", 1, 1),
-        (PAGE, "  take\n# a comment\n\n  take\n", 1, 2),
-        (
-            PAGE,
-            "extension y bbbbbbbbbbbbbbbbbbbbbbbbbbbbbbbb\n  take\n",
-            1,
-            1,
-        ),
-        (
-            PAGE,
-            "extension p bbbbbbbbbbbbbbbbbbbbbbbbbbbbbbbb\npage x p /\n",
-            2,
-            0,
-        ),
-        (PAGE, "page a2345678901234567890123456789012 x /p\n", 2, 0),
-        (PAGE, "  connect ch own name same\n", 1, 1),
-        (PAGE, "  connect ch own name own\n  post ch  1\n", 1, 2),
-        (
-            PAGE,
-            "  connect ch own\n  post ch {\"a\": [1, 2]} \r\n",
-            1,
-            2,
-        ),
-        (
-            PAGE,
-            "  await connect ch\n  await message ch\n  await close ch\n",
-            1,
-            3,
-        ),
-        (PAGE, "  echo 1\n  echo 1000000\n", 1, 2),
-        (
-            PAGE,
-            "  repeat 1 take\n  repeat 1000000 listen none\n",
-            1,
-            2,
-        ),
-        (PAGE, "  repeat 2 await connect ch\n  disconnect ch\n", 1, 2),
-        (PAGE, "host a/e.json\n  take\nhost e\n", 1, 1),
-        (PAGE, "content c x 7 0 https://a.b/f\n  take\n", 2, 1),
-        (PAGE, "web w 0 4294967295 http://a\n  take\n", 2, 1),
-        (PAGE, "  listen none\n  listen external-message\n", 1, 2),
-        (
-            PAGE,
-            "  listen connect message external-connect external-message\n",
-            1,
-            1,
-        ),
-        (
-            PAGE,
-            "  connect a ext x\n  connect a tab 7 name n\n  connect a tab 7 frame 0\n",
-            1,
-            3,
-        ),
-        (
-            PAGE,
-            "  send r own 1\n  await reply r\n  send r tab 7 frame 1 2\n",
-            1,
-            3,
-        ),
-        (
-            PAGE,
-            "  await request r\n  reply r  1\n  reply same r\n  decline r\n",
-            1,
-            4,
-        ),
-        (
-            PAGE,
-            "  native n com.example.echo\n  post n 1\n  await message n\n  disconnect n\n  await close n\n",
-            1,
-            5,
-        ),
-        (
-            PAGE,
-            "  ask r e 1\n  await reply r\n  repeat 2 ask r !~  [1] \r\n",
-            1,
-            3,
-        ),
-        (PAGE, "  native native ask\n  ask ask native 1\n", 1, 2),
-        (
-            PAGE,
-            "  native n same\n  native n E..\n  native n 07\n",
-            1,
-            3,
-        ),
-    ] {
+    for &(above, below, endpoints, commands) in READ {
         let text = format!(in rt.alloc(); "{above}{below}")?;
         let read = Scene::read(rt.alloc(), text.as_bytes());
         assert_eq!(rt; sizes(read), Some((endpoints, commands)), "{below}");
@@ -163,7 +156,7 @@ fn is_page(context: &Context, wanted: &str) -> bool {
 fn two_pages(rt: HostRuntime) {
     let lines =
         "extension x aaaaaaaaaaaaaaaaaaaaaaaaaaaaaaaa\npage q x /q\n  connect ch own\n  post ch 10\n  disconnect ch\npage p x /p\n  listen connect\n  listen none\n  take\n";
-    let Ok(scene) = read_behind_head(rt.alloc(), lines) else {
+    let Ok(scene) = read_after_head(rt.alloc(), lines) else {
         assert!(rt; false);
         return;
     };
@@ -202,7 +195,7 @@ fn two_pages(rt: HostRuntime) {
 fn awaits_echo_and_repeat(rt: HostRuntime) {
     let lines =
         "extension x aaaaaaaaaaaaaaaaaaaaaaaaaaaaaaaa\npage p x /p\n  await connect a\n  await message a\n  repeat 3 connect b own name n\n# a comment\n\n  await close b\n  echo 20";
-    let Ok(scene) = read_behind_head(rt.alloc(), lines) else {
+    let Ok(scene) = read_after_head(rt.alloc(), lines) else {
         assert!(rt; false);
         return;
     };
@@ -229,7 +222,7 @@ fn awaits_echo_and_repeat(rt: HostRuntime) {
 fn files_documents_and_sorts_of_variables(rt: HostRuntime) {
     let lines =
         "host a/e.json\nextension x aaaaaaaaaaaaaaaaaaaaaaaaaaaaaaaa x.json\nextension y bbbbbbbbbbbbbbbbbbbbbbbbbbbbbbbb\nhost b/\nweb w 7 0 HTTPS://A.b\n  connect v ext x\n  send v own 1\n  await request v\n";
-    let Ok(scene) = read_behind_head(rt.alloc(), lines) else {
+    let Ok(scene) = read_after_head(rt.alloc(), lines) else {
         assert!(rt; false);
         return;
     };
@@ -268,7 +261,7 @@ fn files_documents_and_sorts_of_variables(rt: HostRuntime) {
 fn natives(rt: HostRuntime) {
     let lines =
         "extension x aaaaaaaaaaaaaaaaaaaaaaaaaaaaaaaa\npage p x /p\n  connect b own\n  native v com.example.echo\n  repeat 3 ask v E..  [1] \n  post v 1\n  await reply v";
-    let Ok(scene) = read_behind_head(rt.alloc(), lines) else {
+    let Ok(scene) = read_after_head(rt.alloc(), lines) else {
         assert!(rt; false);
         return;
     };
@@ -298,10 +291,8 @@ fn is_text(text: &Option<Utf8Text>, wanted: &str) -> bool {
     }
 }
 
-fn crosses_threads<T: Send + Sync>() {}
-
 #[test]
 fn types_cross_threads(_rt: HostRuntime) {
-    crosses_threads::<crate::Scene>();
-    crosses_threads::<crate::Script>();
+    crosses_threads::<Scene>();
+    crosses_threads::<Script>();
 }
