@@ -6,6 +6,7 @@ use Rattle.std.specs.List.{list_all, list_any}
 use Rattle.std.proofs.lemmas.Bool.{and_parts, not-true, false≢true}
 use Rattle.std.proofs.lemmas.Option.{slice_get_past, slice_get-map}
 use Rattle.std.proofs.lemmas.List.Elements.{filter_agree}
+use Rattle.wx_id.specs.Contexts.{is_among, is_other, same_context}
 use Rattle.wx_id.specs.declared.numbers.RequestNo.{RequestNo}
 use Rattle.wx_id.specs.declared.numbers.ContextNo.{ContextNo}
 use Rattle.wx_id.specs.declared.numbers.HostNo.{HostNo}
@@ -19,14 +20,13 @@ use Rattle.wx_machine.specs.declared.entries.Answer.{Answer}
 use Rattle.wx_machine.specs.declared.entries.Answer.TheVariants.{Request as OnRequest, First, Done, Gone, TooLong}
 use Rattle.wx_machine.specs.declared.entries.Entry.{Entry}
 use Rattle.wx_machine.specs.declared.entries.TheConstants.{LONGEST}
-use Rattle.wx_machine.specs.Contexts.{is_live, is_leave, receivers_of, same_context}
-use Rattle.wx_machine.specs.Channels.{is_among}
+use Rattle.wx_machine.specs.Contexts.{is_live, is_leave, receivers_of}
 use Rattle.wx_machine.specs.Requests.{Parties, asks, asked_by, requests, request, is_asked}
 use Rattle.wx_machine.specs.Hosts.{is_for_request, work_of}
 use Rattle.wx_machine.specs.Settling.{is_decline, has_declined, is_open_to, has_open, settles_by, ends_request, settled_at, is_settled}
 use Rattle.wx_machine.specs.Answers.{on_request, is_late, where_short}
 use Rattle.wx_one_shot.specs.declared.requests.Standing.TheVariants.{Open, Late, Stranger}
-use Rattle.wx_one_shot.specs.Requests.{Request, asked, settled, is_other, left_to, without, left_by, standing_at, is_unsettled_at}
+use Rattle.wx_one_shot.specs.Requests.{Request, asked, settled, left_to, without, left_by, standing_at, is_unsettled_at}
 use Rattle.wx_walks.proofs.EndsLater.{place_more, same_context_is}
 use Rattle.wx_walks.proofs.RequestsLater.{requests_more}
 use Rattle.wx_broker.specs.Tables.{request_said, HasRequests, IsAwaited, AreAwaited, is_done, is_first, on_standing}

@@ -3,8 +3,9 @@ ghost use Rattle.std.specs.Prelude.{◌≡◌, ℕ, ◌<◌, ◌≤◌, ◌+◌,
 ghost use Rattle.std.specs.Option.{option_map};
 ghost use Rattle.wx_machine.specs.Hosts.{is_for_channel, is_for_request};
 ghost use Rattle.wx_machine.specs.Contexts.{enters, is_receiver, numbers_of, receivers_of};
-ghost use Rattle.wx_port.specs.Port.{are_apart, is_among, is_open_port, closed, opened};
-ghost use Rattle.wx_one_shot.specs.Requests.{are_distinct, asked, is_unsettled_at, settled, standing_at, without};
+ghost use Rattle.wx_id.specs.Contexts.{are_distinct, is_among};
+ghost use Rattle.wx_port.specs.Port.{is_open_port, closed, opened};
+ghost use Rattle.wx_one_shot.specs.Requests.{asked, is_unsettled_at, settled, standing_at, without};
 ghost use Rattle.wx_one_shot.specs.declared.requests.Standing.TheVariants as standing;
 ghost use Rattle.wx_broker.specs.Tables.{is_done, is_first, IfRequest};
 
@@ -81,7 +82,7 @@ pub fn open(
     c: ContextNo,
     target: &Target,
 ) -> Result<(), NoMemory>
-    requires apart { IsTrue (are_apart (receivers_of (reverse entries.now) c target.now Sort.Connection)) }
+    requires distinct { IsTrue (are_distinct (receivers_of (reverse entries.now) c target.now Sort.Connection)) }
     requires opener { is_among (receivers_of (reverse entries.now) c target.now Sort.Connection) c ≡ false }
     ensures ok { OnOk result (ports.new ≡ ports.old ++ opened c (receivers_of (reverse entries.now) c target.now Sort.Connection) ∷ []) }
     ensures err { OnErr result (ports.new ≡ ports.old) }

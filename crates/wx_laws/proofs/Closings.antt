@@ -7,6 +7,7 @@ use Rattle.std.proofs.lemmas.Bool.{eqb-true, and_parts, or_parts}
 use Rattle.std.proofs.lemmas.Bool.Decides.{nat_tests}
 use Rattle.std.proofs.lemmas.List.{append-nil}
 use Rattle.std.proofs.lemmas.List.Elements.{filter-append}
+use Rattle.wx_id.specs.Contexts.{is_among, same_context}
 use Rattle.wx_id.specs.declared.numbers.ContextNo.{ContextNo}
 use Rattle.wx_id.specs.declared.numbers.ChannelNo.{ChannelNo}
 use Rattle.wx_id.specs.declared.events.Event.{Event}
@@ -15,8 +16,8 @@ use Rattle.wx_id.specs.declared.events.End.{End}
 use Rattle.wx_id.specs.declared.events.End.TheVariants.{Opener, Receiver, Neither}
 use Rattle.wx_id.specs.declared.events.EventKind.TheVariants.{Connected, Message, Disconnected, Asked}
 use Rattle.wx_external.specs.World.{WorldLists}
-use Rattle.wx_machine.specs.Contexts.{same_context, is_by, is_leave, is_live, receivers_of}
-use Rattle.wx_machine.specs.Channels.{Ends, opened_by, opens, channels, channel, is_among, end_in}
+use Rattle.wx_machine.specs.Contexts.{is_by, is_leave, is_live, receivers_of}
+use Rattle.wx_machine.specs.Channels.{Ends, opened_by, opens, channels, channel, end_in}
 use Rattle.wx_machine.specs.Requests.{asks, requests, is_asked}
 use Rattle.wx_machine.specs.Hosts.{work_of}
 use Rattle.wx_machine.specs.Closing.{has_live, leaving, ends_by, ends_channel, is_closed, closes}

@@ -5,6 +5,7 @@ use Rattle.std.specs.Option.{option_or}
 use Rattle.std.proofs.lemmas.Bool.{eqb-true, and_parts, or_parts}
 use Rattle.std.proofs.lemmas.List.{append-nil, reverse-append, length-reverse, map-append}
 use Rattle.std.proofs.lemmas.List.Elements.{filter-append}
+use Rattle.wx_id.specs.Contexts.{is_among, same_context}
 use Rattle.wx_id.specs.declared.numbers.ContextNo.{ContextNo}
 use Rattle.wx_id.specs.declared.numbers.HostNo.{HostNo}
 use Rattle.wx_id.specs.declared.numbers.EntryNo.{EntryNo}
@@ -18,8 +19,8 @@ use Rattle.wx_context.specs.declared.contexts.Target.{Target}
 use Rattle.wx_external.specs.World.{WorldLists}
 use Rattle.wx_machine.specs.Each.{first}
 use Rattle.wx_machine.specs.Carried.{text_in, text_carried, text_of}
-use Rattle.wx_machine.specs.Contexts.{same_context, is_by, enters, if_numbered, context_of, is_there, has_left, is_live, listens_of, numbers, reaches_from, is_receiver, receivers_of}
-use Rattle.wx_machine.specs.Channels.{Ends, opened_by, opens, channels, channel, is_among, end_in}
+use Rattle.wx_machine.specs.Contexts.{is_by, enters, if_numbered, context_of, is_there, has_left, is_live, listens_of, numbers, reaches_from, is_receiver, receivers_of}
+use Rattle.wx_machine.specs.Channels.{Ends, opened_by, opens, channels, channel, end_in}
 use Rattle.wx_machine.specs.Requests.{asks, requests, is_asked}
 use Rattle.wx_machine.specs.Hosts.{work_of, is_for_channel}
 use Rattle.wx_machine.specs.Closing.{is_one, ends_by, is_closed}

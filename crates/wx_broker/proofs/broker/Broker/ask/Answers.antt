@@ -2,7 +2,7 @@ use Rattle.std.proofs.Common.{◌∙◌, sym}
 use Rattle.std.specs.Prelude.{reverse}
 use Rattle.wx_machine.specs.declared.sorts.Sort.TheVariants.{Message}
 use Rattle.wx_machine.specs.Contexts.{receivers_of}
-use Rattle.wx_broker.proofs.NumbersLater.{receivers_apart, caller_apart, distinct_is}
+use Rattle.wx_broker.proofs.NumbersLater.{receivers_distinct, caller_apart}
 use Rattle.wx_broker.proofs.KeptLater.{kept_asked, ok_holds}
 use Rattle.wx_broker.proofs.broker.Broker.ask.Goals as goal
 
@@ -10,7 +10,7 @@ pub ask-requires-clause-distinct : goal.ask-requires-clause-distinct
 ask-requires-clause-distinct c =
     let i = c.self.inside in
     let past = reverse i.journal.entries in
-    rw (c.entries.ensures, c.reserve.ensures.same) (distinct_is (receivers_of past c.args.c c.args.target Message) ∙ receivers_apart i.world past c.args.c c.args.target Message c.self.invariant.legal)
+    rw (c.entries.ensures, c.reserve.ensures.same) (receivers_distinct i.world past c.args.c c.args.target Message c.self.invariant.legal)
 
 pub ask-requires-clause-asker : goal.ask-requires-clause-asker
 ask-requires-clause-asker c = caller_apart (reverse c.entries.result.now) c.args.c c.args.target Message

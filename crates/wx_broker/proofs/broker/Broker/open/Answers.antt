@@ -1,14 +1,14 @@
 use Rattle.std.proofs.Common.{◌∙◌, sym}
 use Rattle.std.specs.Prelude.{reverse}
 use Rattle.wx_machine.specs.declared.sorts.Sort.TheVariants.{Connection}
-use Rattle.wx_broker.proofs.NumbersLater.{receivers_apart, caller_apart}
+use Rattle.wx_broker.proofs.NumbersLater.{receivers_distinct, caller_apart}
 use Rattle.wx_broker.proofs.KeptLater.{kept_opened, ok_holds}
 use Rattle.wx_broker.proofs.broker.Broker.open.Goals as goal
 
 pub open-requires-clause-apart : goal.open-requires-clause-apart
 open-requires-clause-apart c =
     let i = c.self.inside in
-    rw (c.entries.ensures, c.reserve.ensures.same) (receivers_apart i.world (reverse i.journal.entries) c.args.c c.args.target Connection c.self.invariant.legal)
+    rw (c.entries.ensures, c.reserve.ensures.same) (receivers_distinct i.world (reverse i.journal.entries) c.args.c c.args.target Connection c.self.invariant.legal)
 
 pub open-requires-clause-opener : goal.open-requires-clause-opener
 open-requires-clause-opener c = caller_apart (reverse c.entries.result.now) c.args.c c.args.target Connection
