@@ -14,7 +14,7 @@ use Rattle.wx_machine.specs.declared.entries.Call.TheVariants.{Leave}
 use Rattle.wx_machine.specs.declared.entries.Answer.{Answer}
 use Rattle.wx_machine.specs.declared.entries.Entry.{Entry}
 use Rattle.wx_machine.specs.Contexts.{context_of, has_left, is_by, if_numbered, is_leave, is_live, is_there, numbers, numbers_of, enters, is_receiver, receivers_of}
-use Rattle.wx_walks.proofs.EndsLater.{same_context_is}
+use Rattle.wx_id.proofs.ContextLemmas.{same_context_is}
 use Rattle.wx_walks.proofs.Past.{came_more}
 use Rattle.wx_broker.proofs.TestsLater.{same_back, all_weaker, all_filtered}
 

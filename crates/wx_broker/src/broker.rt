@@ -1,3 +1,4 @@
+//! The broker, and the calls of contexts.
 ghost use Rattle.std.specs.Prelude.{◌≡◌, ◌+◌, ◌<◌, ◌≤◌, IsOk, IsTrue, reverse, [], ◌∷◌, ◌++◌, OnErr, OnOk, IfOk, IfErr};
 ghost use Rattle.wx_machine.specs.Contexts.{contexts};
 ghost use Rattle.wx_machine.specs.Answers.{answer_of, FollowsMachine, IsLegal};

@@ -1,2 +1,3 @@
+pub mod ContextLemmas
 pub mod HostNameLemmas
 pub mod IdLemmas

@@ -1,3 +1,4 @@
 pub mod Contexts
 pub mod HostNames
 pub mod Ids
+pub mod Numbers

@@ -1,3 +1,4 @@
+//! The list of entries, its text, and the reports on its channels and requests.
 ghost use Rattle.std.specs.Prelude.{◌≡◌, List, Ok, ◌+◌, ◌<◌, ◌≤◌, [], ◌∷◌, ◌++◌, length, IfOk, IfErr, OnOk, OnErr, IsOk, slice_get, option_copied, ◌==◌, reverse};
 ghost use Rattle.std.specs.Option.{option_and_then, option_map, IfSome};
 ghost use Rattle.wx_external.specs.World.{WorldLists};
@@ -66,6 +67,7 @@ impl Journal {
     pub fn push(&mut self, e: Entry) -> Result<(), Entry>
         ensures ok { OnOk result (self.new.entries ≡ self.old.entries ++ e ∷ []) }
         ensures err { OnErr result (self.new.entries ≡ self.old.entries) }
+        ensures kept { OnErr result (self.old.spare ≤ self.new.spare) }
         ensures returned { IfErr result (λ back. back ≡ e) }
         ensures room { 0 < self.old.spare → IsOk result }
         ensures spare { self.old.spare ≤ self.new.spare + 1 }
@@ -76,16 +78,24 @@ impl Journal {
         }
     }
 
-    /// Makes room for so many more entries.
+    /// Makes room for so many more entries. Where there is so much room it succeeds.
     pub fn reserve(&mut self, n: u64) -> Result<(), NoMemory>
         ensures same { self.new.entries ≡ self.old.entries }
         ensures ok { OnOk result (n ≤ self.new.spare) }
         ensures kept { self.old.spare ≤ self.new.spare }
+        ensures room { n ≤ self.old.spare → IsOk result }
     {
-        match self.entries.reserve(n as usize) {
-            Ok(()) => Ok(()),
-            Err(_) => Err(NoMemory),
-        }
+        self.entries.reserve(n as usize)?;
+        Ok(())
+    }
+
+    /// Appends an entry that there is room for.
+    pub fn push_reserved(&mut self, e: Entry)
+        requires { 0 < self.old.spare }
+        ensures entries { self.new.entries ≡ self.old.entries ++ e ∷ [] }
+        ensures spare { self.new.spare + 1 ≡ self.old.spare }
+    {
+        self.entries.push_reserved(e);
     }
 
     /// How many more entries have room.

@@ -1,5 +1,5 @@
 -- What a contract sees of the one-shot requests (WebExtensions "runtime.sendMessage").
-use Rattle.std.specs.Prelude.{List, [], Bool, false, not, ◌&&◌, ◌||◌, ◌==◌, cond, Option, Some, None, filter, length}
+use Rattle.std.specs.Prelude.{List, [], Bool, true, false, not, ◌&&◌, ◌||◌, ◌==◌, cond, Option, Some, None, filter, length}
 use Rattle.wx_id.specs.Contexts.{same_context, is_among, is_other}
 use Rattle.wx_id.specs.declared.numbers.ContextNo.{ContextNo}
 use Rattle.wx_one_shot.specs.declared.requests.Standing.{Standing}

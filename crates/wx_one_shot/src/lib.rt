@@ -6,5 +6,3 @@ mod requests;
 
 pub use requests::{Requests, Standing};
 
-#[cfg(test)]
-mod tests;

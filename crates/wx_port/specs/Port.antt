@@ -1,5 +1,5 @@
 -- Channels as a list by number, as contracts see them.
-use Rattle.std.specs.Prelude.{◌≡◌, List, [], ◌∷◌, Bool, false, ◌&&◌, ◌||◌, IsTrue, Option, Some, None, filter, if◌then◌else◌}
+use Rattle.std.specs.Prelude.{◌≡◌, List, [], ◌∷◌, Bool, true, false, ◌&&◌, ◌||◌, IsTrue, Option, Some, None, filter, if◌then◌else◌}
 use Rattle.wx_id.specs.Contexts.{same_context, is_among, is_other, are_distinct}
 use Rattle.wx_id.specs.declared.numbers.ContextNo.{ContextNo}
 use Rattle.wx_id.specs.declared.events.End.{End}

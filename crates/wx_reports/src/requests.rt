@@ -1,3 +1,4 @@
+//! What a journal tells of one request.
 ghost use Rattle.std.specs.Prelude.{◌≡◌, Some, None, cond, is_some, length, reverse};
 ghost use Rattle.std.specs.Option.{option_or, option_map, IfSome};
 ghost use Rattle.wx_external.specs.World.{WorldLists};
@@ -6,7 +7,8 @@ ghost use Rattle.wx_machine.specs.Requests.{request};
 ghost use Rattle.wx_machine.specs.Settling.{ends_request, settled_at};
 ghost use Rattle.wx_laws.specs.Keeping.{KeepsRequest};
 ghost use Rattle.wx_reports.specs.Places.{IsAsking, IsSettlement};
-ghost use Rattle.wx_reports.specs.Reports.{entry_no, asked_at, way, settlement, request_report};
+ghost use Rattle.wx_id.specs.Numbers.{entry_no};
+ghost use Rattle.wx_reports.specs.Reports.{asked_at, way, settlement, request_report};
 
 use crate::ports::found_at;
 use wx_id::{EntryNo, RequestNo};
