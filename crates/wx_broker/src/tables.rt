@@ -7,7 +7,8 @@ ghost use Rattle.wx_id.specs.Contexts.{are_distinct, is_among};
 ghost use Rattle.wx_port.specs.Port.{is_open_port, closed, opened};
 ghost use Rattle.wx_one_shot.specs.Requests.{asked, is_unsettled_at, settled, standing_at, without};
 ghost use Rattle.wx_one_shot.specs.declared.requests.Standing.TheVariants as standing;
-ghost use Rattle.wx_broker.specs.Tables.{is_done, is_first, IfRequest};
+ghost use Rattle.wx_broker.specs.Steps.{KeepsNumbers};
+ghost use Rattle.wx_broker.specs.Tables.{is_channel, is_done, is_first, is_request, IfRequest};
 
 use crate::answers;
 use std::alloc::Global;
@@ -45,10 +46,8 @@ fn add_receiver(
             if !contexts::is_receiver(entries, c, target, sort, d) {
                 return Ok(());
             }
-            match found.push(d) {
-                Ok(()) => Ok(()),
-                Err(_) => Err(NoMemory),
-            }
+            found.push(d)?;
+            Ok(())
         }
         None => Ok(()),
     }
@@ -67,89 +66,114 @@ fn receivers(
 {
     let mut found = Vec::new(alloc);
     for e in entries {
-        if add_receiver(&mut found, entries, c, target, sort, e).is_err() {
-            return Err(NoMemory);
-        }
+        add_receiver(&mut found, entries, c, target, sort, e)?;
     }
     Ok(found)
 }
 
-/// Opens a channel from context c to the receivers of its target.
+/// Opens a channel from context c to the receivers of its target, where its connect was answered with one.
 pub fn open(
     ports: &mut Ports,
     alloc: Global,
     entries: &[Entry],
     c: ContextNo,
     target: &Target,
+    answer: Answer,
 ) -> Result<(), NoMemory>
     requires distinct { IsTrue (are_distinct (receivers_of (reverse entries.now) c target.now Sort.Connection)) }
     requires opener { is_among (receivers_of (reverse entries.now) c target.now Sort.Connection) c ≡ false }
-    ensures ok { OnOk result (ports.new ≡ ports.old ++ opened c (receivers_of (reverse entries.now) c target.now Sort.Connection) ∷ []) }
+    ensures ok { OnOk result (ports.new ≡ ports.old
+        ++ cond (is_channel answer) (opened c (receivers_of (reverse entries.now) c target.now Sort.Connection) ∷ []) []) }
     ensures err { OnErr result (ports.new ≡ ports.old) }
+    ensures cause { OnErr result (IsTrue (is_channel answer)) }
 {
-    let Ok(found) = receivers(alloc, entries, c, target, Sort::Connection) else {
-        return Err(NoMemory);
-    };
+    if !answers::is_channel(answer) {
+        return Ok(());
+    }
+    let found = receivers(alloc, entries, c, target, Sort::Connection)?;
     match ports.open(c, found) {
         Ok(_) => Ok(()),
         Err(_) => Err(NoMemory),
     }
 }
 
-/// Makes a request of context c to the receivers of its target.
+/// Makes a request of context c to the receivers of its target, where its send was answered with one.
 pub fn ask(
     requests: &mut Requests,
     alloc: Global,
     entries: &[Entry],
     c: ContextNo,
     target: &Target,
+    answer: Answer,
 ) -> Result<(), NoMemory>
     requires distinct { IsTrue (are_distinct (receivers_of (reverse entries.now) c target.now Sort.Message)) }
     requires asker { is_among (receivers_of (reverse entries.now) c target.now Sort.Message) c ≡ false }
-    ensures ok { OnOk result (requests.new ≡ requests.old ++ asked c (receivers_of (reverse entries.now) c target.now Sort.Message) ∷ []) }
+    ensures ok { OnOk result (requests.new ≡ requests.old
+        ++ cond (is_request answer) (asked c (receivers_of (reverse entries.now) c target.now Sort.Message) ∷ []) []) }
     ensures err { OnErr result (requests.new ≡ requests.old) }
+    ensures cause { OnErr result (IsTrue (is_request answer)) }
 {
-    let Ok(found) = receivers(alloc, entries, c, target, Sort::Message) else {
-        return Err(NoMemory);
-    };
+    if !answers::is_request(answer) {
+        return Ok(());
+    }
+    let found = receivers(alloc, entries, c, target, Sort::Message)?;
     match requests.ask(c, found) {
         Ok(_) => Ok(()),
         Err(_) => Err(NoMemory),
     }
 }
 
-/// Opens a channel from context c to a native host, in whose place it has no receivers.
-pub fn open_native(ports: &mut Ports, alloc: Global, c: ContextNo) -> Result<(), NoMemory>
-    ensures ok { OnOk result (ports.new ≡ ports.old ++ opened c [] ∷ []) }
+/// Opens a channel from context c to a native host, where its call was answered with one. In place of the host it has no
+/// receivers.
+pub fn open_native(
+    ports: &mut Ports,
+    alloc: Global,
+    c: ContextNo,
+    answer: Answer,
+) -> Result<(), NoMemory>
+    ensures ok { OnOk result (ports.new ≡ ports.old ++ cond (is_channel answer) (opened c [] ∷ []) []) }
     ensures err { OnErr result (ports.new ≡ ports.old) }
+    ensures cause { OnErr result (IsTrue (is_channel answer)) }
 {
+    if !answers::is_channel(answer) {
+        return Ok(());
+    }
     match ports.open(c, Vec::new(alloc)) {
         Ok(_) => Ok(()),
         Err(_) => Err(NoMemory),
     }
 }
 
-/// Makes a request of context c to a native host, in whose place it has no receivers.
-pub fn ask_native(requests: &mut Requests, alloc: Global, c: ContextNo) -> Result<(), NoMemory>
-    ensures ok { OnOk result (requests.new ≡ requests.old ++ asked c [] ∷ []) }
+/// Makes a request of context c to a native host, where its call was answered with one. In place of the host it has no
+/// receivers.
+pub fn ask_native(
+    requests: &mut Requests,
+    alloc: Global,
+    c: ContextNo,
+    answer: Answer,
+) -> Result<(), NoMemory>
+    ensures ok { OnOk result (requests.new ≡ requests.old ++ cond (is_request answer) (asked c [] ∷ []) []) }
     ensures err { OnErr result (requests.new ≡ requests.old) }
+    ensures cause { OnErr result (IsTrue (is_request answer)) }
 {
+    if !answers::is_request(answer) {
+        return Ok(());
+    }
     match requests.ask(c, Vec::new(alloc)) {
         Ok(_) => Ok(()),
         Err(_) => Err(NoMemory),
     }
 }
 
-/// Appends an entry that has room.
+/// Appends an entry that there is room for.
+#[tactic(auto, using(crate::proofs::NumbersLater::numbers_kept))]
 pub fn push(journal: &mut Journal, e: Entry)
     requires { 0 < journal.old.spare }
     ensures entries { journal.new.entries ≡ journal.old.entries ++ e ∷ [] }
     ensures spare { journal.old.spare ≤ journal.new.spare + 1 }
+    ensures numbers { KeepsNumbers journal.old.entries journal.new.entries }
 {
-    match journal.push(e) {
-        Ok(()) => {}
-        Err(_) => unreachable!(),
-    }
+    journal.push_reserved(e);
 }
 
 /// Closes channel k where its disconnect was answered `Done`.
