@@ -96,6 +96,11 @@ kept_quiet world journal new e ports rows kept follows h grown =
     (requests_kept e past rows quiet.stays quiet.declines quiet.asks_none quiet.settles_none kept.requests)
     kept.awaited
 
+-- what holds of a success holds where there is no error
+pub ok_holds : {A B P : Type 0} (r : Result A B) → OnOk r P → is_err r ≡ false → P
+ok_holds (Ok a) h e = h
+ok_holds (Err b) h e = absurd (true≢false e)
+
 -- a context whose number was given may call
 pub may_call : (past : List Entry) (c : ContextNo) → c.0 < contexts past → nat_lt c.0 (contexts past) ≡ true
 may_call past c h = lt-ltb c.0 (contexts past) h

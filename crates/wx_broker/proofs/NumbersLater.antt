@@ -17,8 +17,6 @@ use Rattle.wx_machine.specs.declared.entries.Answer.{Answer}
 use Rattle.wx_machine.specs.declared.entries.Entry.{Entry}
 use Rattle.wx_machine.specs.Each.{EachAfter}
 use Rattle.wx_machine.specs.Contexts.{contexts, numbers, numbers_of, brought, is_enter, is_receiver, receivers_of, is_live, reaches_from, context_of, listens_of}
-use Rattle.wx_machine.specs.declared.entries.Answer.TheVariants.{Entered}
-use Rattle.wx_context.specs.declared.contexts.Context.{Context}
 use Rattle.wx_machine.specs.Hosts.{hosts, starts}
 use Rattle.wx_walks.proofs.Past.{reverse-push}
 use Rattle.wx_broker.specs.Steps.{KeepsNumbers}
@@ -102,8 +100,3 @@ numbers_kept journal e = record {
   contexts_stay = rw (reverse-push journal e) (omega arith);
   hosts_stay = rw (reverse-push journal e) (subst (λ n. length (hosts (reverse journal)) ≤ n) (sym (length-append (hosts (reverse journal)) (option_to_list (starts (reverse journal) e)))) (omega arith));
 }
-
--- who enters gets a number below the count
-pub number_given : (world : WorldLists) (old new : List Entry) (c : ContextNo) (x : Context) → c.0 ≡ contexts (reverse old)
-    → new ≡ old ++ record { who = ByContext c; call = Enter x; answer = Entered c } ∷ [] → c.0 < contexts (reverse new)
-number_given world old new c x is grown = rw (grown, reverse-push old (record { who = ByContext c; call = Enter x; answer = Entered c })) (omega (arith, is))

@@ -73,7 +73,10 @@ fn to_target(
     sort: Sort,
     answer: Answer,
 ) -> Answer
-    ensures { result ≡ cond (is_live (reverse entries.now) c) (where_open (gate_for world.now (context_of (reverse entries.now) c) target.now) (where_heard (receivers_of (reverse entries.now) c target.now sort) answer)) Answer.Gone }
+    ensures { result ≡ cond (is_live (reverse entries.now) c)
+        (where_open (gate_for world.now (context_of (reverse entries.now) c) target.now)
+        (where_heard (receivers_of (reverse entries.now) c target.now sort) answer))
+        Answer.Gone }
 {
     if !contexts::is_live(entries, c) {
         return Answer::Gone;
@@ -103,7 +106,8 @@ pub fn connect(
 /// The answer to a post.
 pub fn post(entries: &[Entry], ports: &Ports, c: ContextNo, k: ChannelNo, text: &JsonText) -> Answer
     requires { HasChannels (reverse entries.now) ports.now }
-    ensures { (world : WorldLists) → result ≡ answer_after world (reverse entries.now) (Who.Context c) (Call.Post k text.now) }
+    ensures { (world : WorldLists)
+        → result ≡ answer_after world (reverse entries.now) (Who.Context c) (Call.Post k text.now) }
 {
     if !contexts::is_live(entries, c) {
         return Answer::Gone;
@@ -120,7 +124,8 @@ pub fn post(entries: &[Entry], ports: &Ports, c: ContextNo, k: ChannelNo, text: 
 /// The answer to a disconnect.
 pub fn disconnect(entries: &[Entry], ports: &Ports, c: ContextNo, k: ChannelNo) -> Answer
     requires { HasChannels (reverse entries.now) ports.now }
-    ensures { (world : WorldLists) → result ≡ answer_after world (reverse entries.now) (Who.Context c) (Call.Disconnect k) }
+    ensures { (world : WorldLists)
+        → result ≡ answer_after world (reverse entries.now) (Who.Context c) (Call.Disconnect k) }
 {
     if !contexts::is_live(entries, c) {
         return Answer::Gone;
@@ -153,7 +158,8 @@ pub fn reply(
     text: &JsonText,
 ) -> Answer
     requires { HasRequests (reverse entries.now) rows.now }
-    ensures { (world : WorldLists) → result ≡ answer_after world (reverse entries.now) (Who.Context c) (Call.Reply r text.now) }
+    ensures { (world : WorldLists)
+        → result ≡ answer_after world (reverse entries.now) (Who.Context c) (Call.Reply r text.now) }
 {
     if !contexts::is_live(entries, c) {
         return Answer::Gone;
@@ -164,7 +170,8 @@ pub fn reply(
 /// The answer to a decline.
 pub fn decline(entries: &[Entry], rows: &Requests, c: ContextNo, r: RequestNo) -> Answer
     requires { HasRequests (reverse entries.now) rows.now }
-    ensures { (world : WorldLists) → result ≡ answer_after world (reverse entries.now) (Who.Context c) (Call.Decline r) }
+    ensures { (world : WorldLists)
+        → result ≡ answer_after world (reverse entries.now) (Who.Context c) (Call.Decline r) }
 {
     if !contexts::is_live(entries, c) {
         return Answer::Gone;
@@ -193,7 +200,8 @@ fn on_channel(
     on_closed: Answer,
     on_open: Answer,
 ) -> Answer
-    ensures { result ≡ at_end (end_of (slice_get ports.now k.0) c) (not (is_open_port (slice_get ports.now k.0))) on_closed on_open }
+    ensures { result
+        ≡ at_end (end_of (slice_get ports.now k.0) c) (not (is_open_port (slice_get ports.now k.0))) on_closed on_open }
 {
     if ports.end(k, c) == End::Neither {
         Answer::NoPort

@@ -70,6 +70,7 @@ impl Broker {
     }
 
     /// A context enters, and is given the next number. It comes back where memory was refused.
+    #[tactic(auto, using(wx_walks::proofs::Past::contexts_after))]
     pub fn enter(&mut self, x: Context) -> Result<ContextNo, Context>
         ensures ok { IfOk result (λ c. Appends self.old self.new (Who.Context c) (Call.Enter x) (Answer.Entered c)) }
         ensures err { OnErr result (Stays self.old self.new) }
@@ -147,7 +148,8 @@ impl Broker {
         ensures err { OnErr result (Stays self.old self.new) }
         ensures returned { IfErr result (λ back. back ≡ name) }
         ensures room { 0 < self.old.spare
-            → OnErr result (IsTrue (is_channel (answer_of self.old.world self.old.entries (Who.Context c) (Call.Connect target name)))) }
+            → OnErr result (IsTrue (is_channel
+            (answer_of self.old.world self.old.entries (Who.Context c) (Call.Connect target name)))) }
         ensures spare { self.old.spare ≤ self.new.spare + 1 }
         ensures numbers { KeepsNumbers self.old.entries self.new.entries }
     {
@@ -230,7 +232,8 @@ impl Broker {
         ensures err { OnErr result (Stays self.old self.new) }
         ensures returned { IfErr result (λ back. back ≡ text) }
         ensures room { 0 < self.old.spare
-            → OnErr result (IsTrue (is_request (answer_of self.old.world self.old.entries (Who.Context c) (Call.Send target text)))) }
+            → OnErr result (IsTrue (is_request
+            (answer_of self.old.world self.old.entries (Who.Context c) (Call.Send target text)))) }
         ensures spare { self.old.spare ≤ self.new.spare + 1 }
         ensures numbers { KeepsNumbers self.old.entries self.new.entries }
     {

@@ -47,7 +47,8 @@ fn to_host(
     name: &Utf8Text,
     answer: Answer,
 ) -> Answer
-    ensures { result ≡ cond (is_live (reverse entries.now) c) (where_native (native_gate_for world.now (context_of (reverse entries.now) c) name.now) answer) Answer.Gone }
+    ensures { result ≡ cond (is_live (reverse entries.now) c)
+        (where_native (native_gate_for world.now (context_of (reverse entries.now) c) name.now) answer) Answer.Gone }
 {
     if !contexts::is_live(entries, c) {
         return Answer::Gone;

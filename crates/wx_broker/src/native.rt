@@ -18,7 +18,8 @@ impl Broker {
         ensures err { OnErr result (Stays self.old self.new) }
         ensures returned { IfErr result (λ back. back ≡ name) }
         ensures room { 0 < self.old.spare
-            → OnErr result (IsTrue (is_channel (answer_of self.old.world self.old.entries (Who.Context c) (Call.ConnectNative name)))) }
+            → OnErr result (IsTrue (is_channel
+            (answer_of self.old.world self.old.entries (Who.Context c) (Call.ConnectNative name)))) }
         ensures spare { self.old.spare ≤ self.new.spare + 1 }
         ensures numbers { KeepsNumbers self.old.entries self.new.entries }
     {
@@ -59,7 +60,8 @@ impl Broker {
         ensures err { OnErr result (Stays self.old self.new) }
         ensures returned { IfErr result (λ back. (back.0 ≡ name) × (back.1 ≡ text)) }
         ensures room { 0 < self.old.spare
-            → OnErr result (IsTrue (is_request (answer_of self.old.world self.old.entries (Who.Context c) (Call.SendNative name text)))) }
+            → OnErr result (IsTrue (is_request
+            (answer_of self.old.world self.old.entries (Who.Context c) (Call.SendNative name text)))) }
         ensures spare { self.old.spare ≤ self.new.spare + 1 }
         ensures numbers { KeepsNumbers self.old.entries self.new.entries }
     {

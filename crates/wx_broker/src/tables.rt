@@ -39,7 +39,8 @@ fn add_receiver(
     sort: Sort,
     e: &Entry,
 ) -> Result<(), NoMemory>
-    ensures { OnOk result (found.new.items ≡ found.old.items ++ filter (is_receiver (reverse entries.now) c target.now sort) (numbers_of (enters e.now))) }
+    ensures { OnOk result (found.new.items
+        ≡ found.old.items ++ filter (is_receiver (reverse entries.now) c target.now sort) (numbers_of (enters e.now))) }
 {
     match number_of(e) {
         Some(d) => {
@@ -179,7 +180,8 @@ pub fn push(journal: &mut Journal, e: Entry)
 /// Closes channel k where its disconnect was answered `Done`.
 pub fn close_if_done(ports: &mut Ports, k: ChannelNo, answer: Answer)
     requires { IsTrue (is_done answer) → IsTrue (is_open_port (slice_get ports.old k.0)) }
-    ensures { (j : ℕ) → slice_get ports.new j ≡ option_map (λ port. cond (is_done answer && (k.0 == j)) (closed port) port) (slice_get ports.old j) }
+    ensures { (j : ℕ) → slice_get ports.new j ≡ option_map
+        (λ port. cond (is_done answer && (k.0 == j)) (closed port) port) (slice_get ports.old j) }
 {
     if answers::is_done(answer) {
         ports.close(k);
@@ -189,7 +191,8 @@ pub fn close_if_done(ports: &mut Ports, k: ChannelNo, answer: Answer)
 /// Settles request r where the reply to it was answered `First`.
 pub fn settle_if_first(requests: &mut Requests, r: RequestNo, answer: Answer)
     requires { IsTrue (is_first answer) → IsTrue (is_unsettled_at (slice_get requests.old r.0)) }
-    ensures { (j : ℕ) → slice_get requests.new j ≡ option_map (λ row. cond (is_first answer && (r.0 == j)) (settled row) row) (slice_get requests.old j) }
+    ensures { (j : ℕ) → slice_get requests.new j ≡ option_map
+        (λ row. cond (is_first answer && (r.0 == j)) (settled row) row) (slice_get requests.old j) }
 {
     if answers::is_first(answer) {
         requests.settle(r);
@@ -199,7 +202,8 @@ pub fn settle_if_first(requests: &mut Requests, r: RequestNo, answer: Answer)
 /// Takes context c out of those that may reply to request r, where its decline was answered `Done`.
 pub fn decline_if_done(requests: &mut Requests, r: RequestNo, c: ContextNo, answer: Answer)
     requires { IsTrue (is_done answer) → standing_at (slice_get requests.old r.0) c ≡ standing.Open }
-    ensures { (j : ℕ) → slice_get requests.new j ≡ option_map (λ row. cond (is_done answer && (r.0 == j)) (without c row) row) (slice_get requests.old j) }
+    ensures { (j : ℕ) → slice_get requests.new j ≡ option_map
+        (λ row. cond (is_done answer && (r.0 == j)) (without c row) row) (slice_get requests.old j) }
 {
     if answers::is_done(answer) {
         let _ = requests.decline(r, c);
@@ -209,7 +213,8 @@ pub fn decline_if_done(requests: &mut Requests, r: RequestNo, c: ContextNo, answ
 /// Closes channel k where it is open.
 #[tactic(auto, using(crate::proofs::ClosedLater::port_closed, crate::proofs::ClosedLater::port_stays))]
 fn close_if_open(ports: &mut Ports, k: ChannelNo)
-    ensures { (j : ℕ) → slice_get ports.new j ≡ option_map (λ port. cond ((k.0 == j) && port.is_open) (closed port) port) (slice_get ports.old j) }
+    ensures { (j : ℕ) → slice_get ports.new j ≡ option_map
+        (λ port. cond ((k.0 == j) && port.is_open) (closed port) port) (slice_get ports.old j) }
 {
     if !ports.is_open(k) {
         return;
@@ -221,7 +226,8 @@ fn close_if_open(ports: &mut Ports, k: ChannelNo)
 #[tactic(auto, using(crate::proofs::ClosedLater::request_settled, crate::proofs::ClosedLater::request_stays))]
 fn settle_if_open(requests: &mut Requests, r: RequestNo)
     requires { r.0 < length requests.old }
-    ensures { (j : ℕ) → slice_get requests.new j ≡ option_map (λ row. cond ((r.0 == j) && not row.is_settled) (settled row) row) (slice_get requests.old j) }
+    ensures { (j : ℕ) → slice_get requests.new j ≡ option_map
+        (λ row. cond ((r.0 == j) && not row.is_settled) (settled row) row) (slice_get requests.old j) }
 {
     if !requests.is_settled(r) {
         requests.settle(r);
@@ -230,7 +236,8 @@ fn settle_if_open(requests: &mut Requests, r: RequestNo)
 
 /// Closes the channel that a host worked for, if it is open.
 pub fn close_work(ports: &mut Ports, work: Option<Work>)
-    ensures { (j : ℕ) → slice_get ports.new j ≡ option_map (λ port. cond (is_for_channel j work && port.is_open) (closed port) port) (slice_get ports.old j) }
+    ensures { (j : ℕ) → slice_get ports.new j ≡ option_map
+        (λ port. cond (is_for_channel j work && port.is_open) (closed port) port) (slice_get ports.old j) }
 {
     match work {
         Some(Work::Channel(k)) => close_if_open(ports, k),
@@ -241,7 +248,8 @@ pub fn close_work(ports: &mut Ports, work: Option<Work>)
 /// Settles the request that a host works for, if it is not settled.
 pub fn settle_work(requests: &mut Requests, work: Option<Work>)
     requires { IfRequest work (λ r. r < length requests.old) }
-    ensures { (j : ℕ) → slice_get requests.new j ≡ option_map (λ row. cond (is_for_request j work && not row.is_settled) (settled row) row) (slice_get requests.old j) }
+    ensures { (j : ℕ) → slice_get requests.new j ≡ option_map
+        (λ row. cond (is_for_request j work && not row.is_settled) (settled row) row) (slice_get requests.old j) }
 {
     match work {
         Some(Work::Request(r)) => settle_if_open(requests, r),

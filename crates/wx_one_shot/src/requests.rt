@@ -187,7 +187,8 @@ impl Requests {
     // Receiver c, which is open, will not reply to request r. Answers whether that settled it.
     fn close_at(&mut self, r: RequestNo, c: ContextNo) -> bool
         requires { standing_at (slice_get self.old r.0) c ≡ Open }
-        ensures requests { IfSome (slice_get self.old r.0) (λ request. self.new ≡ slice_set self.old r.0 (without c request)) }
+        ensures requests { IfSome (slice_get self.old r.0)
+            (λ request. self.new ≡ slice_set self.old r.0 (without c request)) }
         ensures settled { result ≡ is_settled_at (slice_get self.new r.0) }
     {
         close_to(&mut self.rows[r.0 as usize], c)
@@ -197,7 +198,8 @@ impl Requests {
     /// Takes no memory.
     pub fn decline(&mut self, r: RequestNo, c: ContextNo) -> bool
         requires { standing_at (slice_get self.old r.0) c ≡ Open }
-        ensures requests { IfSome (slice_get self.old r.0) (λ request. self.new ≡ slice_set self.old r.0 (without c request)) }
+        ensures requests { IfSome (slice_get self.old r.0)
+            (λ request. self.new ≡ slice_set self.old r.0 (without c request)) }
         ensures settled { result ≡ is_settled_at (slice_get self.new r.0) }
     {
         self.close_at(r, c)
@@ -207,7 +209,8 @@ impl Requests {
     /// receiver is open. Takes no memory.
     pub fn drop_receiver(&mut self, r: RequestNo, c: ContextNo) -> bool
         requires { standing_at (slice_get self.old r.0) c ≡ Open }
-        ensures requests { IfSome (slice_get self.old r.0) (λ request. self.new ≡ slice_set self.old r.0 (without c request)) }
+        ensures requests { IfSome (slice_get self.old r.0)
+            (λ request. self.new ≡ slice_set self.old r.0 (without c request)) }
         ensures settled { result ≡ is_settled_at (slice_get self.new r.0) }
     {
         self.close_at(r, c)
@@ -233,7 +236,8 @@ impl Requests {
     #[tactic(auto, using(crate::proofs::RowsLater::request_at, crate::proofs::RowsLater::none_further))]
     pub fn next_of(&self, c: ContextNo, from: RequestNo) -> Option<RequestNo>
         ensures found { IfSome result (λ r. (from.0 ≤ r.0) × IsTrue (concerns_at (slice_get self.now r.0) c)) }
-        ensures least { IfSome result (λ r. (k : ℕ) → k < r.0 → from.0 ≤ k → concerns_at (slice_get self.now k) c ≡ false) }
+        ensures least { IfSome result (λ r. (k : ℕ) → k < r.0 → from.0 ≤ k
+            → concerns_at (slice_get self.now k) c ≡ false) }
         ensures none { IfNone result ((k : ℕ) → from.0 ≤ k → concerns_at (slice_get self.now k) c ≡ false) }
     {
         for k in from.0 as usize..self.rows.len() {
