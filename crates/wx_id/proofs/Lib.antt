@@ -1,3 +1,4 @@
+pub mod ContextLemmas
 pub mod HostNameLemmas
 pub mod IdLemmas
 pub mod OptionLemmas

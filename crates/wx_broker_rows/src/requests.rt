@@ -1,7 +1,9 @@
-use crate::{Requests, Standing};
+//! One-shot requests: calls of the list of requests and what they answer.
 use std::alloc::Global;
+use std::process::Abort;
 use std::test::Fail;
 use wx_id::{ContextNo, RequestNo};
+use wx_one_shot::{Requests, Standing};
 
 // A call and what it answers. Where no word stands at a call, it has the request, the context and the answer.
 #[derive(Clone, Copy)]
@@ -107,107 +109,105 @@ fn goes(requests: &mut Requests, alloc: Global, step: Step) -> bool {
     }
 }
 
+/// Declines, drops, replies and what is found, in order.
+const IN_ORDER: &[Step] = &[
+    Step::Is(0, 0, Standing::Stranger),
+    Step::Next(0, 0, None),
+    // Three requests to two receivers each, and one to a native host.
+    Step::Ask(0, Some(1), Some(2), 0),
+    Step::Ask(1, Some(0), Some(2), 1),
+    Step::Ask(0, None, None, 2),
+    Step::Ask(3, Some(1), Some(2), 3),
+    Step::Is(0, 1, Standing::Open),
+    Step::Is(0, 2, Standing::Open),
+    Step::Is(0, 0, Standing::Stranger),
+    Step::Is(0, 3, Standing::Stranger),
+    Step::Is(2, 0, Standing::Stranger),
+    Step::Is(2, 1, Standing::Stranger),
+    Step::Is(4, 1, Standing::Stranger),
+    Step::Next(0, 0, Some(0)),
+    Step::Next(0, 1, Some(1)),
+    Step::Next(0, 2, Some(2)),
+    Step::Next(0, 3, None),
+    Step::Next(1, 2, Some(3)),
+    Step::Next(1, 4, None),
+    Step::Next(1, 18446744073709551615, None),
+    Step::Next(3, 0, Some(3)),
+    Step::Next(5, 0, None),
+    // One receiver declines, the other leaves.
+    Step::Decline(0, 1, false),
+    Step::Is(0, 1, Standing::Late),
+    Step::Is(0, 2, Standing::Open),
+    Step::Next(1, 0, Some(1)),
+    Step::Next(2, 0, Some(0)),
+    Step::Next(0, 0, Some(0)),
+    Step::Drop(0, 2, true),
+    Step::Is(0, 1, Standing::Late),
+    Step::Is(0, 2, Standing::Late),
+    Step::Is(0, 0, Standing::Stranger),
+    Step::Is(0, 3, Standing::Stranger),
+    Step::Next(0, 0, Some(1)),
+    Step::Next(2, 0, Some(1)),
+    // A reply settles.
+    Step::Settle(1, 1),
+    Step::Is(1, 0, Standing::Late),
+    Step::Is(1, 2, Standing::Late),
+    Step::Is(1, 1, Standing::Stranger),
+    Step::Is(1, 3, Standing::Stranger),
+    Step::Next(0, 0, Some(2)),
+    Step::Next(1, 0, Some(3)),
+    Step::Next(2, 0, Some(3)),
+    // The host answers.
+    Step::Settle(2, 0),
+    Step::Is(2, 0, Standing::Stranger),
+    Step::Next(0, 0, None),
+    // One receiver leaves, the other declines.
+    Step::Drop(3, 1, false),
+    Step::Is(3, 1, Standing::Late),
+    Step::Decline(3, 2, true),
+    Step::Is(3, 2, Standing::Late),
+    Step::Next(3, 0, None),
+    Step::Ask(2, Some(3), None, 4),
+    Step::Decline(4, 3, true),
+    Step::Next(2, 0, None),
+];
+
 #[test]
 fn calls_in_order(rt: HostRuntime) -> Result<(), Fail> {
     let mut requests = Requests::new(rt.alloc());
-    for step in [
-        Step::Is(0, 0, Standing::Stranger),
-        Step::Next(0, 0, None),
-        // Three requests to two receivers each, and one to a native host.
-        Step::Ask(0, Some(1), Some(2), 0),
-        Step::Ask(1, Some(0), Some(2), 1),
-        Step::Ask(0, None, None, 2),
-        Step::Ask(3, Some(1), Some(2), 3),
-        Step::Is(0, 1, Standing::Open),
-        Step::Is(0, 2, Standing::Open),
-        Step::Is(0, 0, Standing::Stranger),
-        Step::Is(0, 3, Standing::Stranger),
-        Step::Is(2, 0, Standing::Stranger),
-        Step::Is(2, 1, Standing::Stranger),
-        Step::Is(4, 1, Standing::Stranger),
-        Step::Next(0, 0, Some(0)),
-        Step::Next(0, 1, Some(1)),
-        Step::Next(0, 2, Some(2)),
-        Step::Next(0, 3, None),
-        Step::Next(1, 2, Some(3)),
-        Step::Next(1, 4, None),
-        Step::Next(1, 18446744073709551615, None),
-        Step::Next(3, 0, Some(3)),
-        Step::Next(5, 0, None),
-        // One receiver declines, the other leaves.
-        Step::Decline(0, 1, false),
-        Step::Is(0, 1, Standing::Late),
-        Step::Is(0, 2, Standing::Open),
-        Step::Next(1, 0, Some(1)),
-        Step::Next(2, 0, Some(0)),
-        Step::Next(0, 0, Some(0)),
-        Step::Drop(0, 2, true),
-        Step::Is(0, 1, Standing::Late),
-        Step::Is(0, 2, Standing::Late),
-        Step::Is(0, 0, Standing::Stranger),
-        Step::Is(0, 3, Standing::Stranger),
-        Step::Next(0, 0, Some(1)),
-        Step::Next(2, 0, Some(1)),
-        // A reply settles.
-        Step::Settle(1, 1),
-        Step::Is(1, 0, Standing::Late),
-        Step::Is(1, 2, Standing::Late),
-        Step::Is(1, 1, Standing::Stranger),
-        Step::Is(1, 3, Standing::Stranger),
-        Step::Next(0, 0, Some(2)),
-        Step::Next(1, 0, Some(3)),
-        Step::Next(2, 0, Some(3)),
-        // The host answers.
-        Step::Settle(2, 0),
-        Step::Is(2, 0, Standing::Stranger),
-        Step::Next(0, 0, None),
-        // One receiver leaves, the other declines.
-        Step::Drop(3, 1, false),
-        Step::Is(3, 1, Standing::Late),
-        Step::Decline(3, 2, true),
-        Step::Is(3, 2, Standing::Late),
-        Step::Next(3, 0, None),
-        Step::Ask(2, Some(3), None, 4),
-        Step::Decline(4, 3, true),
-        Step::Next(2, 0, None),
-    ] {
-        assert!(rt; goes(&mut requests, rt.alloc(), step));
+    for (i, step) in IN_ORDER.iter().enumerate() {
+        assert!(rt; goes(&mut requests, rt.alloc(), *step), "row {i}");
     }
     Ok(())
 }
+
+/// Who leaves, and what is left of the requests.
+const LEAVES: &[Step] = &[
+    Step::Ask(0, Some(1), Some(2), 0),
+    Step::Ask(1, Some(0), Some(2), 1),
+    Step::Ask(2, Some(1), None, 2),
+    Step::Ask(2, Some(3), None, 3),
+    Step::Count(4),
+    // It asked the one, was sent another with one more, and a third alone.
+    Step::Leave(1),
+    Step::Is(1, 0, Standing::Late),
+    Step::Is(0, 1, Standing::Late),
+    Step::Is(0, 2, Standing::Open),
+    Step::Next(0, 0, Some(0)),
+    Step::Next(2, 1, Some(3)),
+    Step::Is(3, 3, Standing::Open),
+    // The last receiver of one leaves, who asked the last.
+    Step::Leave(2),
+    Step::Next(0, 0, None),
+    Step::Is(3, 3, Standing::Late),
+    Step::Count(4),
+];
 
 #[test]
 fn leaves(rt: HostRuntime) -> Result<(), Fail> {
     let mut requests = Requests::new(rt.alloc());
-    for step in [
-        Step::Ask(0, Some(1), Some(2), 0),
-        Step::Ask(1, Some(0), Some(2), 1),
-        Step::Ask(2, Some(1), None, 2),
-        Step::Ask(2, Some(3), None, 3),
-        Step::Count(4),
-        // It asked the one, was sent another with one more, and a third alone.
-        Step::Leave(1),
-        Step::Is(1, 0, Standing::Late),
-        Step::Is(0, 1, Standing::Late),
-        Step::Is(0, 2, Standing::Open),
-        Step::Next(0, 0, Some(0)),
-        Step::Next(2, 1, Some(3)),
-        Step::Is(3, 3, Standing::Open),
-        // The last receiver of one leaves, who asked the last.
-        Step::Leave(2),
-        Step::Next(0, 0, None),
-        Step::Is(3, 3, Standing::Late),
-        Step::Count(4),
-    ] {
-        assert!(rt; goes(&mut requests, rt.alloc(), step));
+    for (i, step) in LEAVES.iter().enumerate() {
+        assert!(rt; goes(&mut requests, rt.alloc(), *step), "row {i}");
     }
     Ok(())
-}
-
-fn crosses_threads<T: Send + Sync>() {}
-
-#[test]
-fn types_cross_threads(_rt: HostRuntime) {
-    crosses_threads::<Requests>();
-    crosses_threads::<Standing>();
 }

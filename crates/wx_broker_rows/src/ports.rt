@@ -1,13 +1,13 @@
-ghost use Rattle.std.specs.Prelude.{◌≡◌, slice_get};
+//! Channels: calls of the list of channels and what they answer.
+ghost use Rattle.std.specs.Prelude.{◌≡◌, IsTrue, true, slice_get};
 ghost use Rattle.wx_port.specs.Port as spec;
 
-use crate::Ports;
-use crate::channel::is_among;
 use std::process::Abort;
 use std::test::Fail;
 use wx_id::{ChannelNo, ContextNo, End};
+use wx_port::Ports;
 
-/// A call by its numbers of channel and context, and behind them what it answers.
+/// A call by its numbers of channel and context, and after them what it answers.
 #[derive(Clone, Copy)]
 enum Row<'a> {
     End(u64, u64, End),
@@ -23,9 +23,9 @@ enum Row<'a> {
 
 /// Whether c is a live end of channel k, by what a caller can ask.
 fn is_live_end(ports: &Ports, k: ChannelNo, c: ContextNo) -> bool
-    ensures { result ≡ spec.is_live_end (slice_get ports.now k.0) c }
+    ensures { IsTrue result → spec.is_live_end (slice_get ports.now k.0) c ≡ true }
 {
-    ports.is_open(k) && (ports.opener(k).0 == c.0 || is_among(ports.live(k), c))
+    ports.next_of(c, k) == Some(k)
 }
 
 fn are_numbered(contexts: &[ContextNo], numbers: &[u64]) -> bool {
@@ -64,7 +64,29 @@ fn holds(ports: &mut Ports, row: Row) -> bool {
     }
 }
 
-fn crosses_threads<T: Send + Sync>(_value: &T) {}
+/// Who leaves, and what is left of the channels.
+const LEAVES: &[Row<'static>] = &[
+    Row::Count(4),
+    // It opened the one, and is a receiver of two others that have another live one.
+    Row::Leave(1),
+    Row::IsOpen(1, false),
+    Row::End(1, 1, End::Opener),
+    Row::Live(0, &[2]),
+    Row::Live(2, &[7]),
+    Row::Live(3, &[2, 3]),
+    // The last live receiver of one, and the opener of another.
+    Row::Leave(2),
+    Row::IsOpen(0, false),
+    Row::IsOpen(2, false),
+    Row::Live(3, &[3]),
+    // One who left, and one who never came.
+    Row::Leave(2),
+    Row::Leave(9),
+    Row::Live(3, &[3]),
+    Row::Leave(7),
+    Row::IsOpen(3, false),
+    Row::Count(4),
+];
 
 #[test]
 fn leaves(rt: HostRuntime) -> Result<(), Fail> {
@@ -77,39 +99,61 @@ fn leaves(rt: HostRuntime) -> Result<(), Fail> {
         }
         assert!(rt; ports.open(ContextNo(opener), receivers).is_ok());
     }
-    let table = [
-        Row::Count(4),
-        // It opened the one, and is a receiver of two others that have another live one.
-        Row::Leave(1),
-        Row::IsOpen(1, false),
-        Row::End(1, 1, End::Opener),
-        Row::Live(0, &[2]),
-        Row::Live(2, &[7]),
-        Row::Live(3, &[2, 3]),
-        // The last live receiver of one, and the opener of another.
-        Row::Leave(2),
-        Row::IsOpen(0, false),
-        Row::IsOpen(2, false),
-        Row::Live(3, &[3]),
-        // One who left, and one who never came.
-        Row::Leave(2),
-        Row::Leave(9),
-        Row::Live(3, &[3]),
-        Row::Leave(7),
-        Row::IsOpen(3, false),
-        Row::Count(4),
-    ];
-    for (i, row) in table.iter().enumerate() {
+    for (i, row) in LEAVES.iter().enumerate() {
         assert!(rt; holds(&mut ports, *row), "row {i}");
     }
     Ok(())
 }
 
+/// Each call at least once, in order.
+const CALLS: &[Row<'static>] = &[
+    Row::End(0, 7, End::Opener),
+    Row::End(0, 1, End::Receiver),
+    Row::End(0, 3, End::Neither),
+    Row::Live(0, &[1, 2]),
+    Row::NextOf(1, 0, Some(0)),
+    Row::NextOf(1, 1, Some(1)),
+    Row::NextOf(2, 1, Some(2)),
+    Row::NextOf(7, 3, None),
+    Row::NextOf(3, 0, None),
+    // A receiver drops it, and the other too: that closes it, and its ends stay.
+    Row::DropEnd(0, 1, false),
+    Row::IsOpen(0, true),
+    Row::End(0, 1, End::Receiver),
+    Row::Live(0, &[2]),
+    Row::NextOf(1, 0, Some(1)),
+    Row::DropEnd(0, 2, true),
+    Row::IsOpen(0, false),
+    Row::Live(0, &[]),
+    Row::Opener(0, 7),
+    Row::End(0, 2, End::Receiver),
+    Row::NextOf(7, 0, Some(2)),
+    // The opener drops it.
+    Row::Opener(2, 2),
+    Row::Live(2, &[7, 1]),
+    Row::DropEnd(2, 2, true),
+    Row::IsOpen(2, false),
+    Row::Live(2, &[]),
+    Row::End(2, 1, End::Receiver),
+    Row::NextOf(7, 0, None),
+    // A channel without receivers.
+    Row::IsOpen(1, true),
+    Row::Live(1, &[]),
+    Row::Close(1),
+    Row::IsOpen(1, false),
+    Row::Opener(1, 1),
+    Row::NextOf(1, 0, None),
+    // A number that has not been given out.
+    Row::End(3, 7, End::Neither),
+    Row::IsOpen(3, false),
+    Row::Live(3, &[]),
+    Row::NextOf(1, 18_446_744_073_709_551_615, None),
+];
+
 #[test]
 fn calls_and_their_answers(rt: HostRuntime) -> Result<(), Fail> {
     let alloc = rt.alloc();
     let mut ports = Ports::new(alloc);
-    crosses_threads(&ports);
     let Ok(first) = ports.open(ContextNo(7), vec![in alloc; ContextNo(1), ContextNo(2)]?) else {
         return Err("no memory".into());
     };
@@ -120,50 +164,7 @@ fn calls_and_their_answers(rt: HostRuntime) -> Result<(), Fail> {
         return Err("no memory".into());
     };
     assert!(rt; (first.0, second.0, third.0) == (0, 1, 2));
-    let table = [
-        Row::End(0, 7, End::Opener),
-        Row::End(0, 1, End::Receiver),
-        Row::End(0, 3, End::Neither),
-        Row::Live(0, &[1, 2]),
-        Row::NextOf(1, 0, Some(0)),
-        Row::NextOf(1, 1, Some(1)),
-        Row::NextOf(2, 1, Some(2)),
-        Row::NextOf(7, 3, None),
-        Row::NextOf(3, 0, None),
-        // A receiver drops it, and the other too: that closes it, and its ends stay.
-        Row::DropEnd(0, 1, false),
-        Row::IsOpen(0, true),
-        Row::End(0, 1, End::Receiver),
-        Row::Live(0, &[2]),
-        Row::NextOf(1, 0, Some(1)),
-        Row::DropEnd(0, 2, true),
-        Row::IsOpen(0, false),
-        Row::Live(0, &[]),
-        Row::Opener(0, 7),
-        Row::End(0, 2, End::Receiver),
-        Row::NextOf(7, 0, Some(2)),
-        // The opener drops it.
-        Row::Opener(2, 2),
-        Row::Live(2, &[7, 1]),
-        Row::DropEnd(2, 2, true),
-        Row::IsOpen(2, false),
-        Row::Live(2, &[]),
-        Row::End(2, 1, End::Receiver),
-        Row::NextOf(7, 0, None),
-        // A channel without receivers.
-        Row::IsOpen(1, true),
-        Row::Live(1, &[]),
-        Row::Close(1),
-        Row::IsOpen(1, false),
-        Row::Opener(1, 1),
-        Row::NextOf(1, 0, None),
-        // A number that has not been given out.
-        Row::End(3, 7, End::Neither),
-        Row::IsOpen(3, false),
-        Row::Live(3, &[]),
-        Row::NextOf(1, 18_446_744_073_709_551_615, None),
-    ];
-    for (i, row) in table.iter().enumerate() {
+    for (i, row) in CALLS.iter().enumerate() {
         assert!(rt; holds(&mut ports, *row), "row {i}");
     }
     Ok(())

@@ -1,8 +1,11 @@
-use crate::{PortReport, RequestReport, Settled, port_report, request_report};
+//! Reports on channels and requests, of lists of entries.
+use crate::values::{json, name, push};
 use std::alloc::Global;
+use std::process::Abort;
 use std::test::Fail;
-use wx_id::{ChannelNo, ContextNo, EntryNo, Event, EventKind, HostNo, RequestNo, Utf8Text};
-use wx_machine::{Answer, Call, Entry, JsonText, Reason, Who};
+use wx_id::{ChannelNo, ContextNo, EntryNo, Event, EventKind, HostNo, RequestNo};
+use wx_machine::{Answer, Call, Entry, Reason, Who};
+use wx_reports::{PortReport, RequestReport, Settled, port_report, request_report};
 
 const CALLER: Who = Who::Context(ContextNo(0));
 
@@ -10,27 +13,29 @@ fn host(h: u64) -> Who {
     Who::Host(HostNo(h))
 }
 
-fn one(alloc: Global) -> Option<JsonText> {
-    JsonText::new(Vec::from_slice(alloc, b"1").ok()?).ok()
-}
-
-fn push(entries: &mut Vec<Entry>, who: Who, call: Call, answer: Answer) -> Option<()> {
-    entries.push(Entry { who, call, answer }).ok()
-}
-
 /// The channel of host 0: two posts, of which one is refused, a text that the host takes, a message that it says and that
 /// the caller takes, and its end.
 fn push_channel(entries: &mut Vec<Entry>, alloc: Global) -> Option<()> {
     let k = ChannelNo(0);
-    let connect = Call::ConnectNative(Utf8Text::new(alloc, "e").ok()?);
+    let connect = Call::ConnectNative(name(alloc, "e")?);
     push(entries, CALLER, connect, Answer::Channel(k))?;
-    push(entries, CALLER, Call::Post(k, one(alloc)?), Answer::Posted)?;
-    push(entries, CALLER, Call::Post(k, one(alloc)?), Answer::TooLong)?;
+    push(
+        entries,
+        CALLER,
+        Call::Post(k, json(alloc, "1")?),
+        Answer::Posted,
+    )?;
+    push(
+        entries,
+        CALLER,
+        Call::Post(k, json(alloc, "1")?),
+        Answer::TooLong,
+    )?;
     push(entries, host(0), Call::HostTake, Answer::Text(EntryNo(1)))?;
     push(
         entries,
         host(0),
-        Call::HostSaid(one(alloc)?),
+        Call::HostSaid(json(alloc, "1")?),
         Answer::Passed,
     )?;
     let (entry, kind) = (EntryNo(4), EventKind::Message(k));
@@ -41,7 +46,7 @@ fn push_channel(entries: &mut Vec<Entry>, alloc: Global) -> Option<()> {
 }
 
 fn push_request(entries: &mut Vec<Entry>, alloc: Global, r: u64) -> Option<()> {
-    let send = Call::SendNative(Utf8Text::new(alloc, "e").ok()?, one(alloc)?);
+    let send = Call::SendNative(name(alloc, "e")?, json(alloc, "1")?);
     push(entries, CALLER, send, Answer::Request(RequestNo(r)))
 }
 
@@ -51,7 +56,7 @@ fn entries(alloc: Global) -> Option<Vec<Entry>> {
     let mut entries = Vec::new(alloc);
     push_channel(&mut entries, alloc)?;
     push_request(&mut entries, alloc, 0)?;
-    let said = Call::HostSaid(one(alloc)?);
+    let said = Call::HostSaid(json(alloc, "1")?);
     push(&mut entries, host(1), said, Answer::Passed)?;
     push_request(&mut entries, alloc, 1)?;
     let end = Call::HostEnded(Reason::StartFailed);
@@ -61,11 +66,22 @@ fn entries(alloc: Global) -> Option<Vec<Entry>> {
     Some(entries)
 }
 
-fn settled(opened: u64, entry: u64, way: Settled) -> Option<RequestReport> {
-    Some(RequestReport {
+/// The request, the entry that made it, and the entry that settled it, with how; none where there is no such request.
+type Row = (u64, Option<(u64, u64, Settled)>);
+
+const REQUESTS: [Row; 4] = [
+    (0, Some((7, 8, Settled::First))),
+    (1, Some((9, 10, Settled::Closed))),
+    (2, Some((11, 12, Settled::Left))),
+    (3, None),
+];
+
+/// The report of a settled request.
+fn settled(opened: u64, entry: u64, way: Settled) -> RequestReport {
+    RequestReport {
         opened: EntryNo(opened),
         settled: Some((EntryNo(entry), way)),
-    })
+    }
 }
 
 #[test]
@@ -79,12 +95,11 @@ fn reports(rt: HostRuntime) -> Result<(), Fail> {
     };
     assert_eq!(rt; port_report(&entries, ChannelNo(0)), Some(port));
     assert_eq!(rt; port_report(&entries, ChannelNo(1)), None);
-    for (r, want) in [
-        (0, settled(7, 8, Settled::First)),
-        (1, settled(9, 10, Settled::Closed)),
-        (2, settled(11, 12, Settled::Left)),
-        (3, None),
-    ] {
+    for (r, want) in REQUESTS {
+        let want = match want {
+            Some((opened, entry, way)) => Some(settled(opened, entry, way)),
+            None => None,
+        };
         assert_eq!(rt; request_report(&entries, RequestNo(r)), want);
     }
     Ok(())
