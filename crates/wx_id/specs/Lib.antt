@@ -4,3 +4,4 @@ pub mod Ids
 pub mod Options
 pub mod Results
 pub mod Numbers
+pub mod ByContext
