@@ -97,7 +97,10 @@ const PLAIN_COMMANDS: [(&[&str], Option<PlainCommand>); 31] = [
     (&["help", "run"], None),
     (&["match", "--help"], None),
     (&["report", "-h"], None),
-    (&["frames", "help"], Some(PlainCommand::Frames { file: "help" })),
+    (
+        &["frames", "help"],
+        Some(PlainCommand::Frames { file: "help" }),
+    ),
     (&["run", "s"], None),
 ];
 
