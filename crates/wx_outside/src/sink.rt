@@ -1,3 +1,4 @@
+//! What texts are written to.
 /// A piece was not written whole.
 #[derive(Clone, Copy, Debug, PartialEq, Eq)]
 pub struct Failed;

@@ -1,3 +1,4 @@
+//! A sink over a stream.
 ghost use Rattle.std.specs.Prelude.{◌≡◌, None};
 
 use crate::sink::{Failed, Sink};
@@ -13,7 +14,7 @@ pub struct StreamSink<W> {
 impl<W: Write> StreamSink<W> {
     /// A sink over this stream; no write has failed.
     pub fn new(inner: W) -> Self
-        ensures { (Self.state result).faults ≡ 0 }
+        ensures { Self.faults result ≡ 0 }
     {
         StreamSink { inner, faults: 0 }
     }

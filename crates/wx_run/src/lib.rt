@@ -8,8 +8,6 @@ mod outcome;
 mod rounds;
 mod run;
 mod step;
-#[cfg(test)]
-mod tests;
 
 pub use laws::one_end;
 pub use outcome::{Outcome, RunEnd};

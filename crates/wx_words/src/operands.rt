@@ -30,11 +30,18 @@ fn are_all_of_run(words: &[String]) -> bool
     words.iter().all(|word| is_operand(word.as_str()) || is_rounds(word.as_str()))
 }
 
+/// Whether some word is the flag `--rounds`.
+fn is_any_rounds(words: &[String]) -> bool
+    ensures { result ≡ list_any (λ word. forms.is_rounds (string_bytes word)) words.now }
+{
+    words.iter().any(|word| is_rounds(word.as_str()))
+}
+
 /// Whether the flag `--rounds` is among the words.
 pub(crate) fn has_rounds(words: &[String]) -> bool
     ensures { result ≡ list_any forms.is_rounds (map string_bytes words.now) }
 {
-    words.iter().any(|word| is_rounds(word.as_str()))
+    is_any_rounds(words)
 }
 
 /// Whether the words begin with this one.

@@ -1,12 +1,55 @@
-use Rattle.std.proofs.Common.{subst}
+use Rattle.std.proofs.Common.{◌∙◌, subst, sym}
+use Rattle.std.proofs.lemmas.List.{length-map}
 use Rattle.std.specs.Prelude.{reverse, OnOk}
 use Rattle.wx_machine.specs.Answers.{IsLegal}
-use Rattle.wx_host_slot.specs.Slots.{slots_of}
+use Rattle.wx_host_slot.specs.Slots.{slot_of, slots_of}
 use Rattle.wx_run.specs.declared.rounds.Rounded.TheVariants.{Idle}
 use Rattle.wx_run.specs.Cursors.{scripts_in}
+use Rattle.wx_run.specs.Hosts.{NoneReady}
 use Rattle.wx_run.specs.Running.{IsWholeRound, turns_in, TurnsLessen}
+use Rattle.wx_run.proofs.AddLemmas.{none_below}
 use Rattle.wx_run.proofs.RunLemmas.{heard_stands, heard_next, heard_lessens_on, next_whole, same_sizes}
 use Rattle.wx_run.proofs.rounds.next_round.Goals as goal
+
+pub hear_first-requires-clause-all : goal.hear_first-requires-clause-all
+hear_first-requires-clause-all g c κs within =
+    let scripts = scripts_in c.args.cursors.now.items in
+    let ps = c.whole_round.new.cursors.items in
+    let slots = slots_of g.P.Starter.state c.whole_round.new.slots.items in
+    let a = reverse c.args.desk.now.broker.entries in
+    let b = reverse c.whole_round.new.desk.broker.entries in
+    let idle : IsWholeRound 0 scripts ps slots a b Idle = subst (λ r. IsWholeRound 0 scripts ps slots a b r) c.in-Idle.is (c.in_ok-rounded.ensures.round 0 (none_below _)) in
+    sym (length-map c.whole_round.new.slots.items (slot_of g.P.Starter.state)) ∙ idle.3.all
+
+pub hear_first-requires-clause-unspent : goal.hear_first-requires-clause-unspent
+hear_first-requires-clause-unspent g c κs within =
+    let scripts = scripts_in c.args.cursors.now.items in
+    let ps = c.whole_round.new.cursors.items in
+    let slots = slots_of g.P.Starter.state c.whole_round.new.slots.items in
+    let a = reverse c.args.desk.now.broker.entries in
+    let b = reverse c.whole_round.new.desk.broker.entries in
+    let idle : IsWholeRound 0 scripts ps slots a b Idle = subst (λ r. IsWholeRound 0 scripts ps slots a b r) c.in-Idle.is (c.in_ok-rounded.ensures.round 0 (none_below _)) in
+    idle.3.hosts_unspent
+
+pub hear_first-requires-clause-started : goal.hear_first-requires-clause-started
+hear_first-requires-clause-started g c κs within =
+    let scripts = scripts_in c.args.cursors.now.items in
+    let ps = c.whole_round.new.cursors.items in
+    let slots = slots_of g.P.Starter.state c.whole_round.new.slots.items in
+    let a = reverse c.args.desk.now.broker.entries in
+    let b = reverse c.whole_round.new.desk.broker.entries in
+    let idle : IsWholeRound 0 scripts ps slots a b Idle = subst (λ r. IsWholeRound 0 scripts ps slots a b r) c.in-Idle.is (c.in_ok-rounded.ensures.round 0 (none_below _)) in
+    idle.3.started
+
+pub hear_first-requires-clause-none_ready : goal.hear_first-requires-clause-none_ready
+hear_first-requires-clause-none_ready g c κs within =
+    let scripts = scripts_in c.args.cursors.now.items in
+    let ps = c.whole_round.new.cursors.items in
+    let slots = slots_of g.P.Starter.state c.whole_round.new.slots.items in
+    let a = reverse c.args.desk.now.broker.entries in
+    let b = reverse c.whole_round.new.desk.broker.entries in
+    let idle : IsWholeRound 0 scripts ps slots a b Idle = subst (λ r. IsWholeRound 0 scripts ps slots a b r) c.in-Idle.is (c.in_ok-rounded.ensures.round 0 (none_below _)) in
+    subst (λ j. NoneReady j) (sym idle.0) idle.2
 
 pub returns-in-Idle-clause-stand : goal.returns-in-Idle-clause-stand
 returns-in-Idle-clause-stand g c =
