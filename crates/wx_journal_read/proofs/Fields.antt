@@ -4,7 +4,7 @@ use Rattle.std.specs.Prelude.{IsTrue, codes, decimal, nat_lt, nat_le}
 use Rattle.std.specs.Char.{is_ascii_digit}
 use Rattle.std.specs.Str.{all_ascii_digits}
 use Rattle.std.specs.Str.Parse.{digits_value}
-use Rattle.std.proofs.lemmas.Bool.{eqb-true, ltb-true, lt-ltb, leb-true, le-leb}
+use Rattle.std.proofs.lemmas.Bool.{and_parts, eqb-true, ltb-true, lt-ltb, leb-true, le-leb}
 use Rattle.std.proofs.lemmas.Bool.Decides.{nat_tests}
 use Rattle.std.proofs.lemmas.List.{take_at, drop_at, take-append-drop, length-take}
 use Rattle.std.proofs.lemmas.Option.{cond_some}
@@ -70,10 +70,6 @@ two_parts (b ∷ bs) =
 pub own : IsNumeralModel (λ ds. all_ascii_digits ds ≡ true) (digits_value 10)
 own = numerals_by_value _ tells_all_ascii_digits
 
-and_parts : (a b : Bool) → (a && b) ≡ true → (a ≡ true) × (b ≡ true)
-and_parts true b e = (refl, e)
-and_parts false b e = absurd cc
-
 pub plain_parts : (ds : List ℕ) → is_plain ds ≡ true → (0 < length ds) × (get_or ds 0 0 ≡ 48 → length ds ≡ 1)
 plain_parts [] e = absurd cc
 plain_parts (b ∷ bs) e = grind (arith, nat_tests)
@@ -104,7 +100,7 @@ number_reads limit small = record {
       rw (d.0, d.1, plain_decimal n big, v, less) refl;
 }
 
--- ---- texts behind their length
+-- ---- texts after their length
 
 abbrev AnyText : List ℕ → Type 0
 AnyText t = Unit {0}

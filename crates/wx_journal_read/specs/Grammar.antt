@@ -50,7 +50,7 @@ who_rows =
 unfoldable pub who_at : Reader Who
 who_at = choice who_rows
 
--- any frame, or behind the empty word a number
+-- any frame, or after the empty word a number
 abbrev pub frame_rows : Rows (Option FrameId)
 frame_rows =
     (codes "*", just None)
@@ -331,7 +331,7 @@ abbrev pub entries_with : List ℕ → Option (Entry × List ℕ) → (List ℕ 
 entries_with bytes None more = ([], bytes)
 entries_with bytes (Some x) more = (x.0 ∷ (more x.1).0, (more x.1).1)
 
--- the whole entries in front, at most n, and what stands behind them
+-- the whole entries in front, at most n, and what stands after them
 unfoldable pub entries_at : ℕ → List ℕ → List Entry × List ℕ
 entries_at zero bytes = ([], bytes)
 entries_at (suc n) bytes = entries_with bytes (entry_at bytes) (entries_at n)
