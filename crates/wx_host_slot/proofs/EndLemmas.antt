@@ -13,7 +13,7 @@ use Rattle.wx_machine.specs.declared.entries.Answer.{Answer}
 use Rattle.wx_machine.specs.declared.entries.Entry.{Entry}
 use Rattle.wx_machine.specs.Texts.{has_ended, is_host_end, next_text}
 use Rattle.wx_host_launch.specs.Halves.{Sends}
-use Rattle.wx_host_launch.specs.Records.{Program, Account, HostRecord, Writing}
+use Rattle.wx_host_launch.specs.Records.{Program, Account, HostRecord, Writing, for_slot}
 use Rattle.wx_host_slot.specs.Journals.{entries_of, taken_by, said_by, EachOf, LeavesNoText, IsInPlace, program_of}
 use Rattle.wx_host_slot.specs.Meets.{IsHeard, ToldCause, ToldEnd, CountedCause, CountedEnd, MeetsAccount, ToldAccount, MeetsStarted}
 use Rattle.wx_host_slot.specs.Slots.{ChildState, SlotState, closing_record, Runs, IsStartedRecord, StandsRunning, running, at_end, Stands, WasStarted, host_limit, is_spent_at, left_with, turns_left}
@@ -45,12 +45,13 @@ account_ended world past h r w account reason a p unended its_own started l =
       ends = (each_unended (ToldEnd l.heard l.unsaid account) h past (λ before call. told_unended (w p.path) account.read l.heard l.unsaid account before call) unended, λ is. l.cause);
     }
 
-pub meets_ended : (writing : Option Writing) (world : WorldLists) (past : List Entry) (h : HostNo) (r : HostRecord) (reason : Reason) (a : Answer) → has_ended past h ≡ false → EachOf h (IsInPlace h) past → LeavesNoText h past reason
+pub meets_ended : (writing : Option Writing) (world : WorldLists) (past : List Entry) (h : HostNo) (r : HostRecord) (reason : Reason) (a : Answer) → has_ended past h ≡ false → EachOf h (IsInPlace h) past → LeavesNoText h past reason → r.starts ≡ 1
     → CountedCause h (entries_of h past + 1) r past reason → ToldAccount (MeetsAccount world (own h (HostEnded reason) a ∷ past) h r) writing r.account → MeetsStarted writing world (own h (HostEnded reason) a ∷ past) h r
-meets_ended writing world past h r reason a unended in_place leaves cause told =
+meets_ended writing world past h r reason a unended in_place leaves once cause told =
     let C : ℕ → Type 0 = λ made. CountedCause h made r past reason in
     let made = entries_of h (own h (HostEnded reason) a ∷ past) in
     record {
+      once = once;
       in_place = (in_place, λ is. leaves);
       counted = (each_unended (CountedEnd h made r) h past (λ before call. counted_unended h made r before call) unended, λ is. subst C (sym (entries_own h (HostEnded reason) a past)) cause);
       told = told;
@@ -99,7 +100,7 @@ goes_on writing world past h slot child next call a s run no_end in_place runs =
     let same : program_of world now h ≡ program_of world past h = program_later world past (own h call a) h p is ∙ sym is in
     let R : Option Program → Type 0 = λ o. IsStartedRecord writing o slot.starter.slot in
     record {
-      same_writing = s.same_writing;
+      alone = s.alone;
       counted = ap (λ n. n + 1) s.counted ∙ sym (entries_own h call a past);
       stands = running next (record {
         has_child = refl;
@@ -112,10 +113,10 @@ goes_on writing world past h slot child next call a s run no_end in_place runs =
     }
 
 -- the host ended
-pub is_over : (writing : Option Writing) (world : WorldLists) (past : List Entry) (h : HostNo) (slot : SlotState) (next : ChildState) (more : ℕ) (reason : Reason) (a : Answer) → slot.starter.writing ≡ writing → slot.made + more ≡ entries_of h past + 1 → has_ended past h ≡ false
+pub is_over : (writing : Option Writing) (world : WorldLists) (past : List Entry) (h : HostNo) (slot : SlotState) (next : ChildState) (more : ℕ) (reason : Reason) (a : Answer) → slot.starter ≡ for_slot writing slot.starter.slot → slot.made + more ≡ entries_of h past + 1 → has_ended past h ≡ false
     → MeetsStarted writing world (own h (HostEnded reason) a ∷ past) h (closing_record (behind_turn slot next more true)) → Stands writing world (own h (HostEnded reason) a ∷ past) h (behind_turn slot next more true)
-is_over writing world past h slot next more reason a same counted unended meets = record {
-  same_writing = same;
+is_over writing world past h slot next more reason a alone counted unended meets = record {
+  alone = alone;
   counted = counted ∙ sym (entries_own h (HostEnded reason) a past);
   stands = at_end refl (ended_own h (HostEnded reason) a past unended) meets;
 }

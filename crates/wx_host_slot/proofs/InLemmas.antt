@@ -187,7 +187,7 @@ meets_unwritten writing world past h slot child input n b bytes stopped run read
     let S : List (List ℕ) → Type 0 = λ ts. PipesTold writing (program_of world past h) (taken_by h past) ts child.input.sent child.output.stream in
     let unended : has_ended before h ≡ false = ended_own h HostTake (HasText n) past run.host_unended in
     let counted : 0 < r.failed_writes = (let none = run.starter_record.no_writes in omega (arith, none, rose)) in
-    meets_ended writing world before h r WriteFailed b unended (run.in_place, λ _. ready) tt counted
+    meets_ended writing world before h r WriteFailed b unended (run.in_place, λ _. ready) tt run.starter_record.once counted
     (told_unwritten writing world before h r slot.starter.slot (program_of world past h) child.input.sent input.sent child.output.stream (Rose child.input.faults input.faults) (taken_by h past) (text_of_take past HostTake (HasText n)) bytes stopped b unended
     (program_later world past take h p is ∙ sym is) (taken_own h HostTake (HasText n) past) (subst F (sym said) run.runs.fit) run.starter_record (subst S (sym said) run.runs.pipes) sent (λ _. counted) sends)
 
@@ -212,7 +212,7 @@ in_ended writing world past h slot child old new input at legal s run room turn 
       at = now;
       served = record {
         turn = not_written ready before (record { text = n; made = refl }) (record { answer = b; made = refl });
-        stands = is_over writing world before h slot (with_input child input) 2 WriteFailed b s.same_writing (omega (arith, made, counted)) (ended_own h HostTake (HasText n) past run.host_unended) meets;
+        stands = is_over writing world before h slot (with_input child input) 2 WriteFailed b s.alone (omega (arith, made, counted)) (ended_own h HostTake (HasText n) past run.host_unended) meets;
         started = was_started_by slot (with_input child input) 2 true;
         came = fewer_left slot child (with_input child input) 2 true run.has_child run.unended room (omega arith);
       };

@@ -201,8 +201,8 @@ out_ended writing world past h slot child old new output reader at s run room tu
       at = now;
       spoken = record {
         turn = ended reason (heard_end All half.rest child.output output (last_said_closed past h) reason cause) (record { answer = a; made = refl });
-        stands = is_over writing world past h slot next 1 reason a s.same_writing (ap (λ n. n + 1) counted) run.host_unended
-            (meets_ended writing world past h r reason a run.host_unended run.in_place (leaves_none h past reason none)
+        stands = is_over writing world past h slot next 1 reason a s.alone (ap (λ n. n + 1) counted) run.host_unended
+            (meets_ended writing world past h r reason a run.host_unended run.in_place (leaves_none h past reason none) run.starter_record.once
             (counted_cause h (entries_of h past + 1) r past All half.rest child.output output reason cause counts)
             (told_ended writing world past h r slot.starter.slot (program_of world past h) child.input.sent child.output output All (last_said_closed past h) half.bytes half.rest reason a run.host_unended refl run.runs.fit run.starter_record child.output.stream output.stream refl refl run.runs.pipes half.given split cause));
         started = was_started_by slot next 1 true;

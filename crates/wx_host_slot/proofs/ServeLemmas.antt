@@ -76,7 +76,7 @@ rests writing world past h slot s ended = by s.stands
 pub own_writing : (writing : Option Writing) (world : WorldLists) (past : List Entry) (h : HostNo) (slot : SlotState) → Stands writing world past h slot → Stands slot.starter.writing world past h slot
 own_writing writing world past h slot s =
     let W : Option Writing → Type 0 = λ w. Stands w world past h slot in
-    subst W (sym s.same_writing) s
+    subst W (ap (λ (t : StarterState). t.writing) (sym s.alone)) s
 
 -- A turn of the input
 
@@ -362,4 +362,4 @@ pub served_again : (writing : Option Writing) (world other : WorldLists) (h : Ho
 served_again writing world other h a b c slot mid new came s same unended served =
     let W : Option Writing → Type 0 = λ w. IsServed w world h b c mid new came in
     let O : WorldLists → Type 0 = λ o. IsServed mid.starter.writing o h b c mid new came in
-    served_behind writing world h a b c slot mid new came s unended (subst W s.stands.same_writing (subst O same served))
+    served_behind writing world h a b c slot mid new came s unended (subst W (ap (λ (t : StarterState). t.writing) s.stands.alone) (subst O same served))

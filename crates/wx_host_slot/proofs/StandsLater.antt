@@ -85,6 +85,7 @@ meets_later : (writing : Option Writing) (world : WorldLists) (past : List Entry
 meets_later writing world past e h r other m =
     let C : ℕ → Type 0 = λ made. EachOf h (CountedEnd h made r) (e ∷ past) in
     record {
+      once = m.once;
       in_place = each_others (IsInPlace h) e past h other m.in_place;
       counted = subst C (sym (entries_others e past h other)) (each_others (CountedEnd h (entries_of h past) r) e past h other m.counted);
       told = told_map (MeetsAccount world past h r) (MeetsAccount world (e ∷ past) h r) writing r.account (λ w a m. account_later world past e h r w a other m) m.told;
@@ -98,7 +99,7 @@ as_later writing world past e h slot other (at_end ended was meets) = at_end end
 -- A slot stands as it stood behind an entry of others.
 pub stands_later : (writing : Option Writing) (world : WorldLists) (past : List Entry) (e : Entry) (h : HostNo) (slot : SlotState) → h.0 < length (hosts past) → is_by_host e.who h ≡ false → Stands writing world past h slot → Stands writing world (e ∷ past) h slot
 stands_later writing world past e h slot is_host other s = record {
-  same_writing = s.same_writing;
+  alone = s.alone;
   counted = s.counted ∙ sym (entries_others e past h other);
   stands = as_later writing world past e h slot other s.stands;
 }
@@ -146,6 +147,7 @@ meets_running : (writing : Option Writing) (world : WorldLists) (past : List Ent
 meets_running writing world past h slot child s =
     let r = finished slot.starter.slot child.input child.output in
     record {
+      once = s.starter_record.once;
       in_place = s.in_place;
       counted = each_unended (CountedEnd h (entries_of h past) r) h past (λ before call. counted_unended h (entries_of h past) r before call) s.host_unended;
       told = told_running writing world past h r slot.starter.slot (program_of world past h) child.input.sent child.output.stream s.host_unended refl s.runs.fit s.starter_record s.runs.pipes;
@@ -167,7 +169,7 @@ meets_at_end spent writing world past h slot s cause = as_at_end spent writing w
 -- A new slot stands to a journal in which its host has no entry.
 pub waiting_stands : (world : WorldLists) (past : List Entry) (h : HostNo) (starter : StarterState) → entries_of h past ≡ 0 → Stands starter.writing world past h (waiting_slot (slot_like starter))
 waiting_stands world past h starter none = record {
-  same_writing = refl;
+  alone = refl;
   counted = sym none;
   stands = waiting (none_ended past h none) refl refl;
 }

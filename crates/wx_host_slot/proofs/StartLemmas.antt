@@ -25,7 +25,7 @@ use Rattle.wx_broker.specs.Views.{view_at, view_for, view_of, host_view}
 use Rattle.wx_outside.specs.Causes.{Rose}
 use Rattle.wx_host_launch.specs.Halves.{Sends, whole}
 use Rattle.wx_host_launch.specs.Pipes.{InState, OutState}
-use Rattle.wx_host_launch.specs.Records.{Program, Account, HostRecord, Writing, empty_account, empty_record, started, starting, AreFresh}
+use Rattle.wx_host_launch.specs.Records.{Program, Account, HostRecord, Writing, StarterState, plus, empty_account, empty_record, started, starting, AreFresh}
 use Rattle.wx_host_slot.specs.Journals.{entries_of, taken_by, said_by, IsInPlace, program_at, program_of}
 use Rattle.wx_host_slot.specs.Meets.{IsHeard, MeetsAccount, ToldAccount}
 use Rattle.wx_host_slot.specs.Slots.{ChildState, SlotState, PipesTold, IsStartedRecord, Runs, StandsAs, waiting, running, at_end, Stands, host_limit, left_with, turns_left, IsStarted}
@@ -148,13 +148,14 @@ start_runs world past h slot p n input output reader s unended none is fresh lim
     let left : turns_left (with_child slot p n child) ≡ left_with false (Some child) slot.made = ap (λ b. left_with b (Some child) slot.made) unended in
     record {
       stands = record {
-        same_writing = refl;
+        alone = ap (λ (t : StarterState). starting t p.path p.arguments n) s.alone;
         counted = s.counted;
         stands = running child (record {
           has_child = refl;
           unended = unended;
           host_unended = none_ended past h w.no_entries;
           starter_record = subst R (sym is) (record {
+            once = ap (λ (r : HostRecord). plus r.starts 1) w.empty;
             account = ap (λ (r : HostRecord). option_map (started p.path p.arguments) r.account) w.empty ∙ started_account writing p;
             no_reads = ap (λ (r : HostRecord). r.failed_reads) w.empty;
             no_writes = ap (λ (r : HostRecord). r.failed_writes) w.empty;
@@ -202,10 +203,10 @@ start_fails world past h slot p n a s unended none is rose =
     let before = waiting_left slot unended none in
     let account : r.account ≡ option_map (λ w. record empty_account { program = Some p }) writing = ap (λ (x : HostRecord). option_map (started p.path p.arguments) x.account) w.empty ∙ started_account writing p in
     let M : Option Account → Type 0 = ToldAccount (MeetsAccount world (own h (HostEnded StartFailed) a ∷ past) h r) writing in
-    let meets = meets_ended writing world past h r StartFailed a un (none_each (IsInPlace h) past h w.no_entries) tt (omega (arith, rose), omega (arith, no_entries)) (subst M (sym account) (failed_told writing world past h r p a w.no_entries is)) in
+    let meets = meets_ended writing world past h r StartFailed a un (none_each (IsInPlace h) past h w.no_entries) tt (ap (λ (r : HostRecord). plus r.starts 1) w.empty) (omega (arith, rose), omega (arith, no_entries)) (subst M (sym account) (failed_told writing world past h r p a w.no_entries is)) in
     record {
       stands = record {
-        same_writing = refl;
+        alone = ap (λ (t : StarterState). starting t p.path p.arguments n) s.alone;
         counted = sym (entries_own h (HostEnded StartFailed) a past ∙ ap (λ n. n + 1) w.no_entries);
         stands = at_end refl (ended_own h (HostEnded StartFailed) a past un) meets;
       };

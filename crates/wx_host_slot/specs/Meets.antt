@@ -82,11 +82,13 @@ ToldAccount P (Some writing) None = ⊥
 
 -- The record of a host that was started, or was to be, meets the journal.
 pub record MeetsStarted (writing : Option Writing) (world : WorldLists) (past : List Entry) (h : HostNo) (r : HostRecord) : Type 0 where
+  pub once : r.starts ≡ 1
   pub in_place : EachOf h (IsInPlace h) past
   pub counted : EachOf h (CountedEnd h (entries_of h past) r) past
   pub told : ToldAccount (MeetsAccount world past h r) writing r.account
 
--- Host h's record meets the journal. Only where the run was spent may the host have no entry, and an empty record.
+-- Host h's record meets the journal. Its slot was started once; or never, and then its record is empty and the host has no
+-- entry, which may be only where the run was spent.
 pub data RecordMeets (spent : Type 0) (writing : Option Writing) (world : WorldLists) (past : List Entry) (h : HostNo) (r : HostRecord) : Type 0 where
   was_started : MeetsStarted writing world past h r → RecordMeets spent writing world past h r
   never_started : spent → entries_of h past ≡ 0 → r ≡ empty_record writing → RecordMeets spent writing world past h r

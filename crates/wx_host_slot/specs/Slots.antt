@@ -10,7 +10,7 @@ use Rattle.wx_machine.specs.declared.entries.TheConstants.{LONGEST_SAID}
 use Rattle.wx_machine.specs.Answers.{is_host_ready}
 use Rattle.wx_machine.specs.Texts.{has_ended}
 use Rattle.wx_host_launch.specs.Pipes.{InState, OutState, Stream}
-use Rattle.wx_host_launch.specs.Records.{Program, HostRecord, Writing, StarterState, empty_account, empty_record, finished}
+use Rattle.wx_host_launch.specs.Records.{Program, HostRecord, Writing, StarterState, empty_account, empty_record, for_slot, finished}
 use Rattle.wx_host_slot.specs.Journals.{entries_of, taken_by, said_by, EachOf, IsInPlace, program_of}
 use Rattle.wx_host_slot.specs.Meets.{MeetsStarted}
 use Rattle.wx_host_slot.specs.Turns.{HostTurn, SaysOrEnds}
@@ -56,6 +56,10 @@ record_behind r (Some child) = finished r child.input child.output
 abbrev pub closing_record : SlotState → HostRecord
 closing_record slot = record_behind slot.starter.slot slot.child
 
+-- the slot's starter then
+abbrev pub closing_starter : SlotState → StarterState
+closing_starter slot = record slot.starter { slot = closing_record slot }
+
 -- what was sent and read is told where it is told what children write, and then it is the frames of what the host took and
 -- said, and the child will write the rest
 abbrev pub PipesTold : Option Writing → Option Program → List (List ℕ) → List (List ℕ) → Option (List ℕ) → Option Stream → Type 0
@@ -73,6 +77,7 @@ pub record Runs (writing : Option Writing) (world : WorldLists) (past : List Ent
 
 -- the record of a host whose program was started, or was to be, before its child is finished
 pub record IsStartedRecord (writing : Option Writing) (program : Option Program) (r : HostRecord) : Type 0 where
+  pub once : r.starts ≡ 1
   pub account : r.account ≡ option_map (λ w. record empty_account { program = program }) writing
   pub no_reads : r.failed_reads ≡ 0
   pub no_writes : r.failed_writes ≡ 0
@@ -93,9 +98,9 @@ pub data StandsAs (writing : Option Writing) (world : WorldLists) (past : List E
   running : (child : ChildState) → StandsRunning writing world past h slot child → StandsAs writing world past h slot
   at_end : slot.ended ≡ true → has_ended past h ≡ true → MeetsStarted writing world past h (closing_record slot) → StandsAs writing world past h slot
 
--- The slot is host h's, and stands so.
+-- The slot is host h's, nothing else was done with its starter, and it stands so.
 pub record Stands (writing : Option Writing) (world : WorldLists) (past : List Entry) (h : HostNo) (slot : SlotState) : Type 0 where
-  pub same_writing : slot.starter.writing ≡ writing
+  pub alone : slot.starter ≡ for_slot writing slot.starter.slot
   pub counted : slot.made ≡ entries_of h past
   pub stands : StandsAs writing world past h slot
 

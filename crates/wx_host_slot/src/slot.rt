@@ -7,7 +7,7 @@ ghost use Rattle.wx_host_launch.specs.Records.{Program, Starts, AreFresh};
 ghost use Rattle.wx_host_launch.specs.Turns.{IsInTurn, IsOutTurn};
 ghost use Rattle.wx_host_slot.specs.BrokerDesks.{desk_over};
 ghost use Rattle.wx_host_slot.specs.Journals.{program_of};
-ghost use Rattle.wx_host_slot.specs.Slots.{slot_of, waiting_slot, closing_record, host_limit, Stands, WasStarted, is_spent_at, turns_left, CameTo, IsServed, IsStarted, HasSaidOrEnded};
+ghost use Rattle.wx_host_slot.specs.Slots.{slot_of, waiting_slot, closing_starter, host_limit, Stands, WasStarted, is_spent_at, turns_left, CameTo, IsServed, IsStarted, HasSaidOrEnded};
 ghost use Rattle.wx_host_slot.specs.Turns.{HostTurn, SaysOrEnds};
 
 use crate::broker_desk::{in_turn_at, out_turn_at};
@@ -324,7 +324,7 @@ impl<P: Starter> HostSlot<P> {
 
     /// Finishes the child, where one was started: the slot's starter, with the host's record.
     pub fn finish(self) -> P
-        ensures { (P.state result).slot ≡ closing_record (slot_of P.state self) }
+        ensures { P.state result ≡ closing_starter (slot_of P.state self) }
     {
         let HostSlot {
             mut starter,

@@ -390,25 +390,25 @@ pub opened_ready : (writing : Option Writing) (world : WorldLists) (endpoints : 
 opened_ready writing world endpoints ps past so = record {
   endpoints = opened_stand world endpoints ps past so;
   hosts_stand = opened_hosts writing world endpoints ps past so;
-  go_on = record { unspent = so.unspent; hosts_unspent = refl; all = ap length (sym so.no_hosts); started = tt };
+  unspent = so.unspent;
+  hosts_unspent = refl;
+  all = ap length (sym so.no_hosts);
 }
 
-pub opened_rounds : (world : WorldLists) (scene : SceneValue) (ps : List CursorState) (opened after : List Entry) (end : RunEnd) → OpenedSoFar world scene.endpoints (length scene.endpoints) ps opened → AreRounds (scripts_in ps) opened after end
-    → AreRounds (scripts_of scene) (reverse (opening scene)) after end
+pub opened_rounds : (world : WorldLists) (scene : SceneValue) (ps : List CursorState) (opened after : List Entry) (end : RunEnd) → OpenedSoFar world scene.endpoints (length scene.endpoints) ps opened → AreRounds 0 (scripts_in ps) opened after end
+    → AreRounds 0 (scripts_of scene) (reverse (opening scene)) after end
 opened_rounds world scene ps opened after end so came =
     let endpoints = scene.endpoints in
     let begins : opened ≡ reverse (opening scene) = so.begins ∙ ap (λ es. reverse (opening_from 0 es)) (take-length endpoints) in
-    subst (λ j. AreRounds (scripts_of scene) j after end) begins
-    (subst (λ ss. AreRounds ss opened after end) (opened_scripts world endpoints ps opened so) came)
+    subst (λ j. AreRounds 0 (scripts_of scene) j after end) begins
+    (subst (λ ss. AreRounds 0 ss opened after end) (opened_scripts world endpoints ps opened so) came)
 
-pub run_of : (world : WorldLists) (scene : SceneValue) (journal : List Entry) (end : RunEnd) → IsLegal world journal → AreHostsWithin (reverse journal) → AreRounds (scripts_of scene) (reverse (opening scene)) (reverse journal) end → IsRunOf world scene journal end
+pub run_of : (world : WorldLists) (scene : SceneValue) (journal : List Entry) (end : RunEnd) → IsLegal world journal → AreHostsWithin (reverse journal) → AreRounds 0 (scripts_of scene) (reverse (opening scene)) (reverse journal) end → IsRunOf world scene journal end
 run_of world scene journal end legal hosts_within rounds = record {
   legal = legal;
   laws = legal_keeps_laws world journal legal;
   carries_out = rounds.follows;
-  begins = begins_with rounds.count (scripts_of scene) (opening scene) journal rounds.rounds;
-  count = rounds.count;
-  in_rounds = rounds.rounds;
+  begins = begins_with rounds.count 0 (scripts_of scene) (opening scene) journal rounds.rounds;
   within_limit = rounds.within_limit;
   hosts_within_limit = hosts_within;
   ended = rounds.ended;

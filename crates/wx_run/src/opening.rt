@@ -1,3 +1,4 @@
+//! The opening of a run: each endpoint of the scene comes in, in order.
 ghost use Rattle.std.specs.Prelude.{◌≡◌, [], IfOk, OnOk, length, reverse, is_some};
 ghost use Rattle.wx_machine.specs.Answers.{IsLegal};
 ghost use Rattle.wx_machine.specs.Contexts.{contexts};
@@ -28,7 +29,8 @@ fn begins_with_listen(commands: &[Command]) -> bool
 
 /// Lets a context in.
 fn enter(broker: &mut Broker, context: &Context) -> Result<ContextNo, NoMemory>
-    ensures { IfOk result (λ c. Appends broker.old broker.new (Who.Context c) (Call.Enter context.now) (Answer.Entered c)) }
+    ensures { IfOk result (λ c. Appends broker.old broker.new (Who.Context c) (Call.Enter context.now)
+        (Answer.Entered c)) }
 {
     match broker.enter(context.try_clone()?) {
         Ok(c) => Ok(c),
@@ -44,7 +46,8 @@ fn open_one<'a>(
 ) -> Result<Cursor<'a>, NoMemory>
     requires legal { IsLegal desk.old.broker.world desk.old.broker.entries }
     requires all_in { AreBelow (contexts (reverse desk.old.broker.entries)) (reverse desk.old.broker.entries) }
-    ensures opened { IfOk result (λ cursor. IsOpened desk.old.broker.world endpoint.now cursor (reverse desk.old.broker.entries) (reverse desk.new.broker.entries)) }
+    ensures opened { IfOk result (λ cursor. IsOpened desk.old.broker.world endpoint.now cursor
+        (reverse desk.old.broker.entries) (reverse desk.new.broker.entries)) }
     ensures same_world { OnOk result (desk.new.broker.world ≡ desk.old.broker.world) }
 {
     desk.context = enter(&mut desk.broker, &endpoint.context)?;
@@ -62,7 +65,8 @@ pub fn open<'a>(
     desk: &mut BrokerDesk,
 ) -> Result<Vec<Cursor<'a>>, NoMemory>
     requires { desk.old.broker.entries ≡ [] }
-    ensures opened { IfOk result (λ cursors. OpenedSoFar desk.old.broker.world scene.now.endpoints (length scene.now.endpoints) cursors.items (reverse desk.new.broker.entries)) }
+    ensures opened { IfOk result (λ cursors. OpenedSoFar desk.old.broker.world scene.now.endpoints
+        (length scene.now.endpoints) cursors.items (reverse desk.new.broker.entries)) }
     ensures same_world { OnOk result (desk.new.broker.world ≡ desk.old.broker.world) }
 {
     let mut cursors = Vec::new(alloc);
