@@ -29,8 +29,8 @@ abbrev pub AllSaid : List (List ℕ) → Type 0
 AllSaid unsaid = unsaid ≡ []
 
 -- the cause of a reason in what is told of the bytes. Where the host ended by what was read, every text that was read was
--- said, and behind them stood trouble, or the end of what the child writes, within a frame or behind one; where a read
--- failed, they were said and nothing was wrong behind them; where no program was started, nothing was read or sent. Of a
+-- said, and after them stood trouble, or the end of what the child writes, within a frame or after one; where a read
+-- failed, they were said and nothing was wrong after them; where no program was started, nothing was read or sent. Of a
 -- failed write and a closed channel the bytes tell nothing.
 abbrev pub ToldCause : {writes read : List ℕ} → IsHeard writes read → List (List ℕ) → Account → Reason → Type 0
 ToldCause heard unsaid account StartFailed = (account.read ≡ []) × (account.sent ≡ [])

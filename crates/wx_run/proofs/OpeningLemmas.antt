@@ -35,7 +35,8 @@ use Rattle.wx_script.specs.Places.{outside, place_of, place_behind, at_start, is
 use Rattle.wx_script.specs.Carries.{MayCome}
 use Rattle.wx_script.specs.Ends.{numbered, entries_by, entry_limit, is_idle}
 use Rattle.wx_script.proofs.ByLemmas.{is_by-own, is_by-other}
-use Rattle.wx_endpoint.specs.History.{seen_by, MayStand, CarriesOn}
+use Rattle.wx_desk.specs.History.{seen_by}
+use Rattle.wx_endpoint.specs.History.{MayStand, CarriesOn}
 use Rattle.wx_endpoint.specs.Turn.{CursorState}
 use Rattle.wx_run.specs.declared.outcome.RunEnd.{RunEnd}
 use Rattle.wx_run.specs.Opening.{entered, listened, first_listen, first_entries, opening_from, opening}
@@ -76,11 +77,11 @@ none_by c (e ∷ past) below =
     entries_by-other below.1.c c past e below.1.own apart ∙ none_by c past below.0
 
 -- so none of its entries is to be carried out
-carries_none : (s : List Command) (c : ContextNo) (past : List Entry) → AreBelow c.0 past → CarriesOn s c (seen_by c past)
+carries_none : (s : List Command) (c : ContextNo) (past : List Entry) → AreBelow c.0 past → CarriesOn s c (seen_by (ByContext c) past)
 carries_none s c [] below = tt
 carries_none s c (e ∷ past) below =
     let apart : below.1.c.0 ≢ c.0 = (let less = below.1.below in omega arith) in
-    (carries_none s c past below.0, subst (λ b. MayStand s c b (seen_by c past) e) (sym (is_by-other e.who below.1.c c below.1.own apart)) tt)
+    (carries_none s c past below.0, subst (λ b. MayStand s c b (seen_by (ByContext c) past) e) (sym (is_by-other e.who below.1.c c below.1.own apart)) tt)
 
 has_left-below : (past : List Entry) (c : ContextNo) → AreBelow c.0 past → has_left past c ≡ false
 has_left-below [] c below = refl
@@ -155,7 +156,7 @@ ready_entered world past s x legal below follows =
       legal = (legal, follows);
       given = omega arith;
       behind = entered_cursor s c x past below;
-      carries = (carries_none s c past below, subst (λ b. MayStand s c b (seen_by c past) (entered c x)) (sym own) (may_stand s c past (entered c x) may));
+      carries = (carries_none s c past below, subst (λ b. MayStand s c b (seen_by (ByContext c) past) (entered c x)) (sym own) (may_stand s c past (entered c x) may));
       unspent = refl;
     }
 

@@ -11,6 +11,7 @@ ghost use Rattle.wx_run.specs.Slots.{HostsStand, AllWereStarted, AddsBehind, fir
 use crate::rounds::Rounded;
 use std::alloc::Global;
 use wx_broker::Broker;
+use wx_desk::BrokerDesk;
 use wx_host_launch::Starter;
 use wx_host_slot::{HostSlot, Served};
 use wx_id::{HostNo, NoMemory};
@@ -58,30 +59,26 @@ fn has_moved(served: Served) -> bool
 /// The turns of all hosts behind those of the endpoints, in rising number, up to the entry by which one is spent.
 pub fn serve_hosts<P: Starter>(
     alloc: Global,
-    broker: &mut Broker,
+    desk: &mut BrokerDesk,
     slots: &mut Vec<HostSlot<P>>,
 ) -> Result<Rounded, NoMemory>
-    requires legal { IsLegal broker.old.world broker.old.entries }
-    requires stand { (writing : Option Writing)
-        × HostsStand writing broker.old.world (reverse broker.old.entries) (slots_of P.state slots.old.items) }
-    requires all { length slots.old.items ≡ length (hosts (reverse broker.old.entries)) }
+    requires legal { IsLegal desk.old.broker.world desk.old.broker.entries }
+    requires stand { (writing : Option Writing) × HostsStand writing desk.old.broker.world (reverse desk.old.broker.entries) (slots_of P.state slots.old.items) }
+    requires all { length slots.old.items ≡ length (hosts (reverse desk.old.broker.entries)) }
     requires unspent { first_spent_slot 0 (slots_of P.state slots.old.items) ≡ None }
-    ensures stand { (writing : Option Writing)
-        → HostsStand writing broker.old.world (reverse broker.old.entries) (slots_of P.state slots.old.items)
-        → OnOk result (HostsStand writing broker.old.world (reverse broker.new.entries)
-        (slots_of P.state slots.new.items)) }
+    ensures stand { (writing : Option Writing) → HostsStand writing desk.old.broker.world (reverse desk.old.broker.entries) (slots_of P.state slots.old.items)
+        → OnOk result (HostsStand writing desk.old.broker.world (reverse desk.new.broker.entries) (slots_of P.state slots.new.items)) }
     ensures served { (known : ℕ) → AllWereStarted (take known (slots_of P.state slots.old.items))
-        → IfOk result (HostsServed known (reverse broker.old.entries) (reverse broker.new.entries)
-        (slots_of P.state slots.old.items) (slots_of P.state slots.new.items)) }
+        → IfOk result (HostsServed known (reverse desk.old.broker.entries) (reverse desk.new.broker.entries) (slots_of P.state slots.old.items) (slots_of P.state slots.new.items)) }
     ensures same_size { length slots.new.items ≡ length slots.old.items }
-    ensures legal { OnOk result (IsLegal broker.old.world broker.new.entries) }
-    ensures same_world { OnOk result (broker.new.world ≡ broker.old.world) }
+    ensures legal { OnOk result (IsLegal desk.old.broker.world desk.new.broker.entries) }
+    ensures same_world { OnOk result (desk.new.broker.world ≡ desk.old.broker.world) }
 {
     let mut moved = false;
     for i in 0..slots.len() {
         let h = HostNo(i as u64);
         let slot = &mut slots[i];
-        let served = slot.serve(alloc, broker, h)?;
+        let served = slot.serve(alloc, desk, h)?;
         if slot.is_spent() {
             return Ok(Rounded::Spent(SpentWho::Host(h)));
         }
@@ -104,32 +101,28 @@ fn first_unended<P: Starter>(slots: &[HostSlot<P>]) -> Option<usize>
 
 /// The turn of the first host that has not ended, where nobody else can do anything; no turn where there is none.
 pub fn hear_first<P: Starter>(
-    broker: &mut Broker,
+    desk: &mut BrokerDesk,
     slots: &mut Vec<HostSlot<P>>,
 ) -> Result<Rounded, NoMemory>
-    requires legal { IsLegal broker.old.world broker.old.entries }
-    requires stand { (writing : Option Writing)
-        × HostsStand writing broker.old.world (reverse broker.old.entries) (slots_of P.state slots.old.items) }
-    requires all { length slots.old.items ≡ length (hosts (reverse broker.old.entries)) }
+    requires legal { IsLegal desk.old.broker.world desk.old.broker.entries }
+    requires stand { (writing : Option Writing) × HostsStand writing desk.old.broker.world (reverse desk.old.broker.entries) (slots_of P.state slots.old.items) }
+    requires all { length slots.old.items ≡ length (hosts (reverse desk.old.broker.entries)) }
     requires unspent { first_spent_slot 0 (slots_of P.state slots.old.items) ≡ None }
     requires started { AllWereStarted (slots_of P.state slots.old.items) }
-    requires none_ready { NoneReady (reverse broker.old.entries) }
-    ensures stand { (writing : Option Writing)
-        → HostsStand writing broker.old.world (reverse broker.old.entries) (slots_of P.state slots.old.items)
-        → OnOk result (HostsStand writing broker.old.world (reverse broker.new.entries)
-        (slots_of P.state slots.new.items)) }
-    ensures heard { IfOk result (FirstHeard (reverse broker.old.entries) (reverse broker.new.entries)
-        (slots_of P.state slots.old.items) (slots_of P.state slots.new.items)) }
+    requires none_ready { NoneReady (reverse desk.old.broker.entries) }
+    ensures stand { (writing : Option Writing) → HostsStand writing desk.old.broker.world (reverse desk.old.broker.entries) (slots_of P.state slots.old.items)
+        → OnOk result (HostsStand writing desk.old.broker.world (reverse desk.new.broker.entries) (slots_of P.state slots.new.items)) }
+    ensures heard { IfOk result (FirstHeard (reverse desk.old.broker.entries) (reverse desk.new.broker.entries) (slots_of P.state slots.old.items) (slots_of P.state slots.new.items)) }
     ensures same_size { length slots.new.items ≡ length slots.old.items }
-    ensures legal { OnOk result (IsLegal broker.old.world broker.new.entries) }
-    ensures same_world { OnOk result (broker.new.world ≡ broker.old.world) }
+    ensures legal { OnOk result (IsLegal desk.old.broker.world desk.new.broker.entries) }
+    ensures same_world { OnOk result (desk.new.broker.world ≡ desk.old.broker.world) }
 {
     let Some(i) = first_unended(slots) else {
         return Ok(Rounded::Idle);
     };
     let h = HostNo(i as u64);
     let slot = &mut slots[i];
-    slot.hear(broker, h)?;
+    slot.hear(desk, h)?;
     Ok(if slot.is_spent() {
         Rounded::Spent(SpentWho::Host(h))
     } else {

@@ -10,7 +10,8 @@ use crate::hosts::{add_slots, hear_first, serve_hosts};
 use crate::outcome::RunEnd;
 use crate::step::make_turn;
 use std::alloc::Global;
-use wx_endpoint::{BrokerDesk, Cursor};
+use wx_desk::BrokerDesk;
+use wx_endpoint::Cursor;
 use wx_host_launch::Starter;
 use wx_host_slot::HostSlot;
 use wx_id::{ContextNo, NoMemory};
@@ -95,7 +96,7 @@ fn whole_round<P: Starter>(
         return Ok(turns);
     }
     add_slots(&desk.broker, slots, starter)?;
-    match serve_hosts(alloc, &mut desk.broker, slots)? {
+    match serve_hosts(alloc, desk, slots)? {
         Rounded::Idle => Ok(turns),
         served => Ok(served),
     }
@@ -127,7 +128,7 @@ fn next_round<P: Starter>(
     ensures same_world { OnOk result (desk.new.broker.world ≡ desk.old.broker.world) }
 {
     match whole_round(alloc, cursors, slots, desk, starter)? {
-        Rounded::Idle => hear_first(&mut desk.broker, slots),
+        Rounded::Idle => hear_first(desk, slots),
         rounded => Ok(rounded),
     }
 }

@@ -11,10 +11,10 @@ use crate::outcome::Outcome;
 use crate::rounds::run_rounds;
 use std::alloc::Global;
 use wx_broker::Broker;
-use wx_endpoint::BrokerDesk;
+use wx_desk::BrokerDesk;
 use wx_external::World;
 use wx_host_launch::Starter;
-use wx_id::{ContextNo, NoMemory};
+use wx_id::NoMemory;
 use wx_script::{How, Scene};
 
 /// A run of the scene: the opening, and round after round, until nobody can do anything, or up to the entry by which
@@ -36,18 +36,14 @@ pub fn run_scene<P: Starter>(
 {
     // Until a run has threads, it is made in rounds either way.
     let _ = how;
-    let mut desk = BrokerDesk {
-        broker: Broker::new(alloc, world),
-        context: ContextNo(0),
-    };
+    let mut desk = BrokerDesk::new(Broker::new(alloc, world));
     let mut cursors = open(alloc, scene, &mut desk)?;
     let mut slots = Vec::new(alloc);
     let end = run_rounds(alloc, &mut cursors, &mut slots, &mut desk, starter)?;
     add_slots(&desk.broker, &mut slots, starter)?;
     finish_hosts(slots, starter);
-    let BrokerDesk { broker, context: _ } = desk;
     Ok(Outcome {
-        journal: broker.into_journal(),
+        journal: desk.into_broker().into_journal(),
         end,
     })
 }

@@ -2,7 +2,8 @@
 ghost use Rattle.std.specs.Prelude.{◌≡◌, IfOk, reverse};
 ghost use Rattle.wx_run.specs.Step.{IsReady, IsStep};
 
-use wx_endpoint::{BrokerDesk, Cursor, Turned, turn};
+use wx_desk::BrokerDesk;
+use wx_endpoint::{Cursor, Turned, turn};
 use wx_id::NoMemory;
 
 /// One turn of the desk's endpoint, which is not spent: whether it made an entry.

@@ -53,9 +53,9 @@ hear_first-requires-clause-none_ready g c κs within =
 
 pub returns-in-Idle-clause-stand : goal.returns-in-Idle-clause-stand
 returns-in-Idle-clause-stand g c =
-    let legal : OnOk c.hear_first.result (IsLegal c.args.desk.now.broker.world c.hear_first.new.broker.entries) = subst (λ w. OnOk c.hear_first.result (IsLegal w c.hear_first.new.broker.entries)) c.in_ok-rounded.ensures.same_world c.hear_first.ensures.legal in
+    let legal : OnOk c.hear_first.result (IsLegal c.args.desk.now.broker.world c.hear_first.new.desk.broker.entries) = subst (λ w. OnOk c.hear_first.result (IsLegal w c.hear_first.new.desk.broker.entries)) c.in_ok-rounded.ensures.same_world c.hear_first.ensures.legal in
     heard_stands c.args.desk.now.broker.world (scripts_in c.args.cursors.now.items) c.whole_round.new.cursors.items (slots_of g.P.Starter.state c.whole_round.new.slots.items) (slots_of g.P.Starter.state c.hear_first.new.slots.items)
-    (reverse c.whole_round.new.desk.broker.entries) (reverse c.hear_first.new.broker.entries) c.hear_first.result c.in_ok-rounded.ensures.stand c.hear_first.ensures.heard legal
+    (reverse c.whole_round.new.desk.broker.entries) (reverse c.hear_first.new.desk.broker.entries) c.hear_first.result c.in_ok-rounded.ensures.stand c.hear_first.ensures.heard legal
 
 pub returns-in-Idle-clause-round : goal.returns-in-Idle-clause-round
 returns-in-Idle-clause-round g c =
@@ -64,10 +64,10 @@ returns-in-Idle-clause-round g c =
     let a = reverse c.args.desk.now.broker.entries in
     let b = reverse c.whole_round.new.desk.broker.entries in
     let old = slots_of g.P.Starter.state c.whole_round.new.slots.items in
-    let legal : OnOk c.hear_first.result (IsLegal c.args.desk.now.broker.world c.hear_first.new.broker.entries) = subst (λ w. OnOk c.hear_first.result (IsLegal w c.hear_first.new.broker.entries)) c.in_ok-rounded.ensures.same_world c.hear_first.ensures.legal in
+    let legal : OnOk c.hear_first.result (IsLegal c.args.desk.now.broker.world c.hear_first.new.desk.broker.entries) = subst (λ w. OnOk c.hear_first.result (IsLegal w c.hear_first.new.desk.broker.entries)) c.in_ok-rounded.ensures.same_world c.hear_first.ensures.legal in
     let size = same_sizes g.P.Starter.state c.whole_round.new.slots.items c.hear_first.new.slots.items c.hear_first.ensures.same_size in
     λ known first. let idle : IsWholeRound known scripts ps old a b Idle = subst (λ r. IsWholeRound known scripts ps old a b r) c.in-Idle.is (c.in_ok-rounded.ensures.round known first) in
-    heard_next known c.args.desk.now.broker.world scripts ps old (slots_of g.P.Starter.state c.hear_first.new.slots.items) a b (reverse c.hear_first.new.broker.entries) c.hear_first.result c.in_ok-rounded.ensures.stand size idle c.hear_first.ensures.heard legal
+    heard_next known c.args.desk.now.broker.world scripts ps old (slots_of g.P.Starter.state c.hear_first.new.slots.items) a b (reverse c.hear_first.new.desk.broker.entries) c.hear_first.result c.in_ok-rounded.ensures.stand size idle c.hear_first.ensures.heard legal
 
 pub returns-in-Idle-clause-less : goal.returns-in-Idle-clause-less
 returns-in-Idle-clause-less g c =
@@ -77,7 +77,7 @@ returns-in-Idle-clause-less g c =
     let old = slots_of state c.whole_round.new.slots.items in
     let before = turns_in c.args.cursors.now.items (slots_of state c.args.slots.now.items) in
     let less : TurnsLessen before (turns_in ps old) Idle = subst (λ r. TurnsLessen before (turns_in ps old) r) c.in-Idle.is c.in_ok-rounded.ensures.less in
-    heard_lessens_on before ps old (slots_of state c.hear_first.new.slots.items) b (reverse c.hear_first.new.broker.entries) c.hear_first.result less c.hear_first.ensures.heard
+    heard_lessens_on before ps old (slots_of state c.hear_first.new.slots.items) b (reverse c.hear_first.new.desk.broker.entries) c.hear_first.result less c.hear_first.ensures.heard
 
 pub returns-in_default : goal.returns-in_default
 returns-in_default g c =

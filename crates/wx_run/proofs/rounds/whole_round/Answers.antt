@@ -46,7 +46,7 @@ returns-in-Idle g c =
     let ps = c.round.new.cursors.items in
     let a = reverse c.args.desk.now.broker.entries in
     let b = reverse c.round.new.desk.broker.entries in
-    let d = reverse c.serve_hosts.new.broker.entries in
+    let d = reverse c.serve_hosts.new.desk.broker.entries in
     let old = slots_of state c.args.slots.now.items in
     let mid = slots_of state c.add_slots.new.slots.items in
     let new = slots_of state c.serve_hosts.new.slots.items in
@@ -56,7 +56,7 @@ returns-in-Idle g c =
     let served : (known : ℕ) → WereStartedBelow known old → HostsServed known b d mid new Idle = λ known first.
     subst (λ r. HostsServed known b d mid new r) c.in-Idle.is (serves.served known (were_started old mid known added.front first)) in
     let some = served 0 (none_below old) in
-    let legal : IsLegal world c.serve_hosts.new.broker.entries = subst (λ w. IsLegal w c.serve_hosts.new.broker.entries) turns.same_world serves.legal in
+    let legal : IsLegal world c.serve_hosts.new.desk.broker.entries = subst (λ w. IsLegal w c.serve_hosts.new.desk.broker.entries) turns.same_world serves.legal in
     let all_there = slots_added state c.args.slots.now.items c.add_slots.new.slots.items b added.all added.left in
     let keeps = places_added state writing world b c.args.slots.now.items c.add_slots.new.slots.items (state c.args.starter.now) (state c.add_slots.new.starter)
     (round_keeps writing world scripts ps old a b c.in_ok-turns.turns turns.round c.requires.hosts_stand) added.all added.kept in
@@ -79,7 +79,7 @@ returns-in_default-2 g c =
     let ps = c.round.new.cursors.items in
     let a = reverse c.args.desk.now.broker.entries in
     let b = reverse c.round.new.desk.broker.entries in
-    let d = reverse c.serve_hosts.new.broker.entries in
+    let d = reverse c.serve_hosts.new.desk.broker.entries in
     let old = slots_of state c.args.slots.now.items in
     let mid = slots_of state c.add_slots.new.slots.items in
     let new = slots_of state c.serve_hosts.new.slots.items in
@@ -91,7 +91,7 @@ returns-in_default-2 g c =
     let some = served 0 (none_below old) in
     let size = same_sizes state c.add_slots.new.slots.items c.serve_hosts.new.slots.items serves.same_size in
     let made = round_made scripts ps a b c.in_ok-turns.turns turns.round c.in_default.not-Spent in
-    let legal : IsLegal world c.serve_hosts.new.broker.entries = subst (λ w. IsLegal w c.serve_hosts.new.broker.entries) turns.same_world serves.legal in
+    let legal : IsLegal world c.serve_hosts.new.desk.broker.entries = subst (λ w. IsLegal w c.serve_hosts.new.desk.broker.entries) turns.same_world serves.legal in
     let all_there = slots_added state c.args.slots.now.items c.add_slots.new.slots.items b added.all added.left in
     let keeps = places_added state writing world b c.args.slots.now.items c.add_slots.new.slots.items (state c.args.starter.now) (state c.add_slots.new.starter)
     (round_keeps writing world scripts ps old a b c.in_ok-turns.turns turns.round c.requires.hosts_stand) added.all added.kept in
