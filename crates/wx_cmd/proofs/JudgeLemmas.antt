@@ -1,6 +1,6 @@
 -- What a scene comes to whose manifests make no world, that the starter is not used for it, and what a verdict makes once it
 -- is told.
-use Rattle.std.proofs.Common.{inl, inr}
+use Rattle.std.proofs.Common.{◌≡◌, ◌∙◌, ◌≤◌, Option, Some, ap, arith, inl, inr, subst, sym}
 use Rattle.std.specs.Prelude.{ℕ, List, ◌⊎◌, Result, Ok, Err, IfOk, OnErr}
 use Rattle.wx_id.specs.declared.texts.NoMemory.{NoMemory}
 use Rattle.wx_script.specs.declared.scene.How.{How}
@@ -8,14 +8,18 @@ use Rattle.wx_script.specs.SceneValue.{SceneValue}
 use Rattle.wx_world.specs.declared.faults.WorldFault.{WorldFault}
 use Rattle.wx_world.specs.Reading.{HasCause}
 use Rattle.wx_status.specs.declared.status.Status.{Status}
-use Rattle.wx_status.specs.Changes.{ShelfChange, SinkChange}
+use Rattle.wx_outside.specs.Causes.{counted}
+use Rattle.wx_outside.specs.Shelf.{Files, ShelfState, Content, Tells}
+use Rattle.wx_words.specs.Words.{scene_named, how_asked}
+use Rattle.wx_status.specs.Changes.{ShelfChange, SinkChange, HasReadFailed, over}
 use Rattle.wx_cmd.specs.declared.tell.Verdict as code
 use Rattle.wx_cmd.specs.View.{verdict_view}
 use Rattle.wx_cmd.specs.Verdict.{Verdict, read_fault, refused, manifest_refused, no_memory, ran}
 use Rattle.wx_cmd.specs.Starters.{StarterChange, IsUnused, IsUnusedUnlessRun}
-use Rattle.wx_cmd.specs.Judging.{HasWorld, SceneComesTo}
+use Rattle.wx_cmd.specs.Scenes.{scene_of_content, IsTextOfRun}
+use Rattle.wx_cmd.specs.Judging.{HasWorld, SceneComesTo, ComesTo, IsReadFault}
 use Rattle.wx_cmd.specs.Told.{Told}
-use Rattle.wx_cmd.specs.Headline.{Judged, RunHeadline}
+use Rattle.wx_cmd.specs.Headline.{Found, Accepted, Judged, RunHeadline}
 
 -- a scene whose manifests make no world comes to what its fault is judged as
 pub fault_judged : (r : Result code.Verdict NoMemory) (how : How) (scene : SceneValue) (shelf : ShelfChange) (starter : StarterChange) (fault : WorldFault)
@@ -62,3 +66,52 @@ pub told_headline : (words : List (List ℕ)) (shelf : ShelfChange) (starter : S
 told_headline words shelf starter out err result verdict judged unused (inl told) = record { verdict = verdict; judged = judged; told = told; unused = unused }
 told_headline words shelf starter out err result verdict judged unused (inr told) =
     record { verdict = no_memory; judged = without_memory words shelf starter verdict judged unused; told = told; unused = tt }
+
+-- what was found under the scene's name comes to a verdict, which has its cause over the whole call
+pub found_judged : (words : List (List ℕ)) (name : List ℕ) (how : How) (content : Content) (old mid new : ShelfState) (starter : StarterChange) (verdict : Verdict) → scene_named words ≡ Some name → how_asked words ≡ how
+    → Tells old.files name content → mid.files ≡ old.files → old.faults ≤ mid.faults → ComesTo how content (over mid new) starter verdict → Judged words (over old new) starter verdict
+found_judged words name how content old mid new starter verdict named asked stands same later comes = by verdict (subst (λ (files : Option Files). ComesTo how content (over (record mid { files = files }) new) starter verdict) same comes)
+  where
+    found : Found words (over old new) content
+    found = record { file = name; named = named; stands = stands }
+
+    accepted : (scene : SceneValue) → scene_of_content content ≡ Ok scene → Accepted words (over old new) scene
+    accepted scene is = record { content = content; found = found; accepted = is }
+
+    by : (verdict : Verdict) → ComesTo how content (over (record mid { files = old.files }) new) starter verdict → Judged words (over old new) starter verdict
+    by (read_fault file) (scene, is, place, failed, name_is) = inr (record {
+      scene = scene;
+      accepted = accepted scene is;
+      place = place;
+      failed = record { named = failed.named; world = failed.world; so_far = failed.so_far; failed = (let rose = failed.failed in omega (arith, rose, later)) };
+      name = name_is;
+    })
+    by (refused fault) comes = record { content = content; found = found; refusal = comes }
+    by (manifest_refused refusal file) (scene, is, first, name_is) = record { scene = scene; accepted = accepted scene is; first = first; name = name_is }
+    by no_memory (inl unused) = inl unused
+    by no_memory (inr (scene, is, world, manifests)) = inr (record { scene = scene; accepted = accepted scene is; world = world; manifests = manifests })
+    by (ran end text lines) (scene, is, world, manifests, run) = record {
+      scene = scene;
+      accepted = accepted scene is;
+      world = world;
+      manifests = manifests;
+      run = subst (λ (way : How). IsTextOfRun way world scene starter end text lines) (sym asked) run;
+    }
+
+-- what its scene comes to, the content comes to
+pub scene_judged : (how : How) (content : Content) (scene : SceneValue) (shelf : ShelfChange) (starter : StarterChange) (verdict : Verdict) → scene_of_content content ≡ Ok scene → SceneComesTo how scene shelf starter verdict → ComesTo how content shelf starter verdict
+scene_judged how content scene shelf starter (read_fault file) is comes = (scene, is, comes)
+scene_judged how content scene shelf starter (refused fault) is comes = absurd comes
+scene_judged how content scene shelf starter (manifest_refused refusal file) is comes = (scene, is, comes)
+scene_judged how content scene shelf starter no_memory is (inl unused) = inl unused
+scene_judged how content scene shelf starter no_memory is (inr has) = inr (scene, is, has)
+scene_judged how content scene shelf starter (ran end text lines) is comes = (scene, is, comes)
+
+-- the read of the scene failed, and no other was made
+pub unread_judged : (words : List (List ℕ)) (name : List ℕ) (shelf : ShelfChange) (starter : StarterChange) (verdict : Verdict) → scene_named words ≡ Some name → shelf.after.reads ≡ counted shelf.before.reads → HasReadFailed shelf → IsUnused starter
+    → IsReadFault name verdict → Judged words shelf starter verdict
+unread_judged words name shelf starter (read_fault file) named one failed unused is = inl (record { named = named ∙ ap Some (sym is); one = one; failed = failed })
+unread_judged words name shelf starter (refused fault) named one failed unused is = absurd is
+unread_judged words name shelf starter (manifest_refused refusal file) named one failed unused is = absurd is
+unread_judged words name shelf starter no_memory named one failed unused is = inl unused
+unread_judged words name shelf starter (ran end text lines) named one failed unused is = absurd is

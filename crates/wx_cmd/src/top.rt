@@ -82,7 +82,8 @@ pub fn wx<F: Shelf, P: Starter, O: Sink, E: Sink>(
         → RefusesManifest (map string_bytes words.now)
         (over (F.state shelf.old) (F.state shelf.new)) (over (O.state out.old) (O.state out.new)) file kind }
     ensures write_fault { result ≡ status.WriteFault
-        → Rose (O.state out.old).faults (O.state out.new).faults ⊎ Rose (E.state err.old).faults (E.state err.new).faults }
+        → Rose (O.state out.old).faults (O.state out.new).faults ⊎ Rose (E.state err.old).faults
+        (E.state err.new).faults }
 
     ensures unchanged { (F.state shelf.new).files ≡ (F.state shelf.old).files }
 {

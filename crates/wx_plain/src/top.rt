@@ -144,7 +144,8 @@ pub fn wx_plain<F: Shelf, O: Sink, E: Sink>(
     ensures usage { result ≡ status.Usage → forms.plain_command_of (map string_bytes words.now) ≡ None }
     ensures read_fault { result ≡ status.ReadFault → Rose (F.state shelf.old).faults (F.state shelf.new).faults }
     ensures write_fault { result ≡ status.WriteFault
-        → Rose (O.state out.old).faults (O.state out.new).faults ⊎ Rose (E.state err.old).faults (E.state err.new).faults }
+        → Rose (O.state out.old).faults (O.state out.new).faults ⊎ Rose (E.state err.old).faults
+        (E.state err.new).faults }
 
     ensures unchanged { (F.state shelf.new).files ≡ (F.state shelf.old).files }
 {

@@ -23,13 +23,19 @@ pub fn add_slots<P: Starter>(
     slots: &mut Vec<HostSlot<P>>,
     starter: &mut P,
 ) -> Result<(), NoMemory>
-    requires { HostsStand (P.state starter.old).writing broker.now.world (reverse broker.now.entries) (slots_of P.state slots.old.items) }
-    ensures stand { OnOk result (HostsStand (P.state starter.old).writing broker.now.world (reverse broker.now.entries) (slots_of P.state slots.new.items)) }
+    requires { HostsStand (P.state starter.old).writing broker.now.world (reverse broker.now.entries)
+        (slots_of P.state slots.old.items) }
+    ensures stand { OnOk result (HostsStand (P.state starter.old).writing broker.now.world (reverse broker.now.entries)
+        (slots_of P.state slots.new.items)) }
     ensures all { OnOk result (length slots.new.items ≡ length (hosts (reverse broker.now.entries))) }
     ensures front { OnOk result (AddsBehind (slots_of P.state slots.old.items) (slots_of P.state slots.new.items)) }
-    ensures unspent { OnOk result (first_spent_slot 0 (slots_of P.state slots.old.items) ≡ None → first_spent_slot 0 (slots_of P.state slots.new.items) ≡ None) }
-    ensures left { OnOk result (all_turns_left (slots_of P.state slots.new.items) ≡ all_turns_left (slots_of P.state slots.old.items) + (host_limit + 4) * (length slots.new.items - length slots.old.items)) }
-    ensures kept { OnOk result (P.state starter.new ≡ keeping (length slots.new.items - length slots.old.items) (P.state starter.old)) }
+    ensures unspent { OnOk result (first_spent_slot 0 (slots_of P.state slots.old.items) ≡ None
+        → first_spent_slot 0 (slots_of P.state slots.new.items) ≡ None) }
+    ensures left { OnOk result (all_turns_left (slots_of P.state slots.new.items)
+        ≡ all_turns_left (slots_of P.state slots.old.items) + (host_limit + 4) *
+        (length slots.new.items - length slots.old.items)) }
+    ensures kept { OnOk result (P.state starter.new
+        ≡ keeping (length slots.new.items - length slots.old.items) (P.state starter.old)) }
 {
     while (slots.len() as u64) < broker.hosts() {
         let slot = HostSlot::new(starter.another()?);

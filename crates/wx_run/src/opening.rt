@@ -48,7 +48,8 @@ fn open_one<'a>(
 ) -> Result<Cursor<'a>, NoMemory>
     requires legal { IsLegal desk.old.broker.world desk.old.broker.entries }
     requires all_in { AreBelow (contexts (reverse desk.old.broker.entries)) (reverse desk.old.broker.entries) }
-    ensures opened { IfOk result (λ cursor. IsOpened desk.old.broker.world endpoint.now cursor (reverse desk.old.broker.entries) (reverse desk.new.broker.entries)) }
+    ensures opened { IfOk result (λ cursor. IsOpened desk.old.broker.world endpoint.now cursor
+        (reverse desk.old.broker.entries) (reverse desk.new.broker.entries)) }
     ensures same_world { OnOk result (desk.new.broker.world ≡ desk.old.broker.world) }
 {
     desk.context = enter(&mut desk.broker, &endpoint.context)?;
@@ -66,7 +67,8 @@ pub fn open<'a>(
     desk: &mut BrokerDesk,
 ) -> Result<Vec<Cursor<'a>>, NoMemory>
     requires { desk.old.broker.entries ≡ [] }
-    ensures opened { IfOk result (λ cursors. OpenedSoFar desk.old.broker.world scene.now.endpoints (length scene.now.endpoints) cursors.items (reverse desk.new.broker.entries)) }
+    ensures opened { IfOk result (λ cursors. OpenedSoFar desk.old.broker.world scene.now.endpoints
+        (length scene.now.endpoints) cursors.items (reverse desk.new.broker.entries)) }
     ensures same_world { OnOk result (desk.new.broker.world ≡ desk.old.broker.world) }
 {
     let mut cursors = Vec::new(alloc);

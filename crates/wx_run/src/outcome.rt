@@ -7,8 +7,8 @@ use wx_script::SpentWho;
 pub enum RunEnd {
     /// Every script and every host has ended.
     Done,
-    /// Some script has not ended, no endpoint is spent, each script that has not ended waits with nothing pending, and every
-    /// host has ended.
+    /// Some script has not ended, no endpoint is spent, each script that has not ended waits with nothing pending, and
+    /// every host has ended.
     Stalled,
     /// It stopped after the entry with which this endpoint or host had made as many as it may, and had not ended.
     Spent(SpentWho),

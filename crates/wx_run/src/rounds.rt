@@ -42,11 +42,15 @@ fn end_of(cursors: &[Cursor<'_>]) -> RunEnd
 
 /// The endpoints' part of a round: a turn of each, in rising number, up to the entry by which one is spent.
 fn round(cursors: &mut Vec<Cursor<'_>>, desk: &mut BrokerDesk) -> Result<Rounded, NoMemory>
-    requires stand { AllStand desk.old.broker.world (scripts_in cursors.old.items) cursors.old.items (reverse desk.old.broker.entries) }
+    requires stand { AllStand desk.old.broker.world (scripts_in cursors.old.items) cursors.old.items
+        (reverse desk.old.broker.entries) }
     requires unspent { first_spent_in 0 cursors.old.items ≡ None }
-    ensures stand { OnOk result (AllStand desk.old.broker.world (scripts_in cursors.old.items) cursors.new.items (reverse desk.new.broker.entries)) }
-    ensures round { IfOk result (λ rounded. IsRound (scripts_in cursors.old.items) cursors.new.items (reverse desk.old.broker.entries) (reverse desk.new.broker.entries) rounded) }
-    ensures less { IfOk result (λ rounded. RoundLessens cursors.old.items cursors.new.items (reverse desk.old.broker.entries) (reverse desk.new.broker.entries) rounded) }
+    ensures stand { OnOk result (AllStand desk.old.broker.world (scripts_in cursors.old.items) cursors.new.items
+        (reverse desk.new.broker.entries)) }
+    ensures round { IfOk result (λ rounded. IsRound (scripts_in cursors.old.items) cursors.new.items
+        (reverse desk.old.broker.entries) (reverse desk.new.broker.entries) rounded) }
+    ensures less { IfOk result (λ rounded. RoundLessens cursors.old.items cursors.new.items
+        (reverse desk.old.broker.entries) (reverse desk.new.broker.entries) rounded) }
     ensures same_world { OnOk result (desk.new.broker.world ≡ desk.old.broker.world) }
 {
     let mut moved = false;
@@ -61,8 +65,9 @@ fn round(cursors: &mut Vec<Cursor<'_>>, desk: &mut BrokerDesk) -> Result<Rounded
     Ok(if moved { Rounded::Moved } else { Rounded::Idle })
 }
 
-/// A whole round: the turns of all endpoints, and then of all hosts, those included that were called in it, of which those
-/// alone can fail to start that were not started before; or its first turns, up to the entry by which someone is spent.
+/// A whole round: the turns of all endpoints, and then of all hosts, those included that were called in it, of which
+/// those alone can fail to start that were not started before; or its first turns, up to the entry by which someone is
+/// spent.
 fn whole_round<P: Starter>(
     alloc: Global,
     cursors: &mut Vec<Cursor<'_>>,
@@ -70,12 +75,20 @@ fn whole_round<P: Starter>(
     desk: &mut BrokerDesk,
     starter: &mut P,
 ) -> Result<Rounded, NoMemory>
-    requires { AreReady (P.state starter.old).writing desk.old.broker.world (scripts_in cursors.old.items) cursors.old.items (slots_of P.state slots.old.items) (reverse desk.old.broker.entries) }
-    ensures stand { OnOk result (AllStand desk.old.broker.world (scripts_in cursors.old.items) cursors.new.items (reverse desk.new.broker.entries)) }
-    ensures hosts_stand { OnOk result (HostsStand (P.state starter.old).writing desk.old.broker.world (reverse desk.new.broker.entries) (slots_of P.state slots.new.items)) }
-    ensures round { (known : ℕ) → WereStartedBelow known (slots_of P.state slots.old.items) → IfOk result (λ rounded. IsWholeRound known (scripts_in cursors.old.items) cursors.new.items (slots_of P.state slots.new.items) (reverse desk.old.broker.entries) (reverse desk.new.broker.entries) rounded) }
-    ensures less { IfOk result (λ rounded. TurnsLessen (turns_in cursors.old.items (slots_of P.state slots.old.items)) (turns_in cursors.new.items (slots_of P.state slots.new.items)) rounded) }
-    ensures kept { OnOk result (KeepsPlaces (slots_of P.state slots.old.items) (slots_of P.state slots.new.items) (P.state starter.old) (P.state starter.new)) }
+    requires { AreReady (P.state starter.old).writing desk.old.broker.world (scripts_in cursors.old.items)
+        cursors.old.items (slots_of P.state slots.old.items) (reverse desk.old.broker.entries) }
+    ensures stand { OnOk result (AllStand desk.old.broker.world (scripts_in cursors.old.items) cursors.new.items
+        (reverse desk.new.broker.entries)) }
+    ensures hosts_stand { OnOk result
+        (HostsStand (P.state starter.old).writing desk.old.broker.world (reverse desk.new.broker.entries)
+        (slots_of P.state slots.new.items)) }
+    ensures round { (known : ℕ) → WereStartedBelow known (slots_of P.state slots.old.items)
+        → IfOk result (λ rounded. IsWholeRound known (scripts_in cursors.old.items) cursors.new.items
+        (slots_of P.state slots.new.items) (reverse desk.old.broker.entries) (reverse desk.new.broker.entries) rounded) }
+    ensures less { IfOk result (λ rounded. TurnsLessen (turns_in cursors.old.items (slots_of P.state slots.old.items))
+        (turns_in cursors.new.items (slots_of P.state slots.new.items)) rounded) }
+    ensures kept { OnOk result (KeepsPlaces (slots_of P.state slots.old.items) (slots_of P.state slots.new.items)
+        (P.state starter.old) (P.state starter.new)) }
     ensures same_world { OnOk result (desk.new.broker.world ≡ desk.old.broker.world) }
 {
     let turns = round(cursors, desk)?;
@@ -89,8 +102,8 @@ fn whole_round<P: Starter>(
     }
 }
 
-/// The next round of a run: a whole round, or its first turns, up to the entry by which someone is spent; or, where nobody can do
-/// anything, the turn of the first host that has not ended.
+/// The next round of a run: a whole round, or its first turns, up to the entry by which someone is spent; or, where
+/// nobody can do anything, the turn of the first host that has not ended.
 fn next_round<P: Starter>(
     alloc: Global,
     cursors: &mut Vec<Cursor<'_>>,
@@ -98,12 +111,20 @@ fn next_round<P: Starter>(
     desk: &mut BrokerDesk,
     starter: &mut P,
 ) -> Result<Rounded, NoMemory>
-    requires { AreReady (P.state starter.old).writing desk.old.broker.world (scripts_in cursors.old.items) cursors.old.items (slots_of P.state slots.old.items) (reverse desk.old.broker.entries) }
-    ensures stand { OnOk result (AllStand desk.old.broker.world (scripts_in cursors.old.items) cursors.new.items (reverse desk.new.broker.entries)) }
-    ensures hosts_stand { OnOk result (HostsStand (P.state starter.old).writing desk.old.broker.world (reverse desk.new.broker.entries) (slots_of P.state slots.new.items)) }
-    ensures round { (known : ℕ) → WereStartedBelow known (slots_of P.state slots.old.items) → IfOk result (λ rounded. IsNextRound known (scripts_in cursors.old.items) cursors.new.items (slots_of P.state slots.new.items) (reverse desk.old.broker.entries) (reverse desk.new.broker.entries) rounded) }
-    ensures less { IfOk result (λ rounded. TurnsLessen (turns_in cursors.old.items (slots_of P.state slots.old.items)) (turns_in cursors.new.items (slots_of P.state slots.new.items)) rounded) }
-    ensures kept { OnOk result (KeepsPlaces (slots_of P.state slots.old.items) (slots_of P.state slots.new.items) (P.state starter.old) (P.state starter.new)) }
+    requires { AreReady (P.state starter.old).writing desk.old.broker.world (scripts_in cursors.old.items)
+        cursors.old.items (slots_of P.state slots.old.items) (reverse desk.old.broker.entries) }
+    ensures stand { OnOk result (AllStand desk.old.broker.world (scripts_in cursors.old.items) cursors.new.items
+        (reverse desk.new.broker.entries)) }
+    ensures hosts_stand { OnOk result
+        (HostsStand (P.state starter.old).writing desk.old.broker.world (reverse desk.new.broker.entries)
+        (slots_of P.state slots.new.items)) }
+    ensures round { (known : ℕ) → WereStartedBelow known (slots_of P.state slots.old.items)
+        → IfOk result (λ rounded. IsNextRound known (scripts_in cursors.old.items) cursors.new.items
+        (slots_of P.state slots.new.items) (reverse desk.old.broker.entries) (reverse desk.new.broker.entries) rounded) }
+    ensures less { IfOk result (λ rounded. TurnsLessen (turns_in cursors.old.items (slots_of P.state slots.old.items))
+        (turns_in cursors.new.items (slots_of P.state slots.new.items)) rounded) }
+    ensures kept { OnOk result (KeepsPlaces (slots_of P.state slots.old.items) (slots_of P.state slots.new.items)
+        (P.state starter.old) (P.state starter.new)) }
     ensures same_world { OnOk result (desk.new.broker.world ≡ desk.old.broker.world) }
 {
     match whole_round(alloc, cursors, slots, desk, starter)? {
@@ -120,10 +141,16 @@ pub fn run_rounds<P: Starter>(
     desk: &mut BrokerDesk,
     starter: &mut P,
 ) -> Result<RunEnd, NoMemory>
-    requires { AreReady (P.state starter.old).writing desk.old.broker.world (scripts_in cursors.old.items) cursors.old.items (slots_of P.state slots.old.items) (reverse desk.old.broker.entries) }
-    ensures rounds { (known : ℕ) → WereStartedBelow known (slots_of P.state slots.old.items) → IfOk result (λ end. AreRounds known (scripts_in cursors.old.items) (reverse desk.old.broker.entries) (reverse desk.new.broker.entries) end) }
-    ensures hosts_stand { OnOk result (HostsStand (P.state starter.old).writing desk.old.broker.world (reverse desk.new.broker.entries) (slots_of P.state slots.new.items)) }
-    ensures kept { OnOk result (KeepsPlaces (slots_of P.state slots.old.items) (slots_of P.state slots.new.items) (P.state starter.old) (P.state starter.new)) }
+    requires { AreReady (P.state starter.old).writing desk.old.broker.world (scripts_in cursors.old.items)
+        cursors.old.items (slots_of P.state slots.old.items) (reverse desk.old.broker.entries) }
+    ensures rounds { (known : ℕ) → WereStartedBelow known (slots_of P.state slots.old.items)
+        → IfOk result (λ end. AreRounds known (scripts_in cursors.old.items) (reverse desk.old.broker.entries)
+        (reverse desk.new.broker.entries) end) }
+    ensures hosts_stand { OnOk result
+        (HostsStand (P.state starter.old).writing desk.old.broker.world (reverse desk.new.broker.entries)
+        (slots_of P.state slots.new.items)) }
+    ensures kept { OnOk result (KeepsPlaces (slots_of P.state slots.old.items) (slots_of P.state slots.new.items)
+        (P.state starter.old) (P.state starter.new)) }
     ensures same_world { OnOk result (desk.new.broker.world ≡ desk.old.broker.world) }
 {
     loop {

@@ -17,8 +17,8 @@ use wx_host_launch::Starter;
 use wx_id::NoMemory;
 use wx_script::{How, Scene};
 
-/// A run of the scene: the opening, and round after round, until nobody can do anything, or up to the entry by which someone is
-/// spent. The starter starts the hosts' programs, takes over a record for each host, and does nothing else.
+/// A run of the scene: the opening, and round after round, until nobody can do anything, or up to the entry by which
+/// someone is spent. The starter starts the hosts' programs, takes over a record for each host, and does nothing else.
 pub fn run_scene<P: Starter>(
     alloc: Global,
     scene: &Scene,
@@ -30,7 +30,8 @@ pub fn run_scene<P: Starter>(
     // In rounds the entries after the opening fall into rounds.
     ensures rounds { how ≡ How.Rounds → IfOk result (λ outcome. IsInRounds scene.now outcome.journal.entries) }
     ensures records { IfOk result (λ outcome.
-        HaveRecords (IsSpent (scripts_of scene.now) (reverse outcome.journal.entries)) world (reverse outcome.journal.entries)
+        HaveRecords (IsSpent (scripts_of scene.now) (reverse outcome.journal.entries)) world
+        (reverse outcome.journal.entries)
         (P.state starter.old) (P.state starter.new)) }
 {
     // Until a run has threads, it is made in rounds either way.

@@ -25,7 +25,8 @@ fn are_all_operands(words: &[String]) -> bool
 
 /// Whether each word is an operand or `--rounds`.
 fn are_all_of_run(words: &[String]) -> bool
-    ensures { result ≡ list_all (λ word. forms.is_operand (string_bytes word) || forms.is_rounds (string_bytes word)) words.now }
+    ensures { result ≡ list_all (λ word. forms.is_operand (string_bytes word) || forms.is_rounds (string_bytes word))
+        words.now }
 {
     words.iter().all(|word| is_operand(word.as_str()) || is_rounds(word.as_str()))
 }
@@ -66,7 +67,8 @@ pub(crate) fn are_operands(words: &[String]) -> bool
 
 /// Whether each word after the first is an operand or `--rounds`.
 pub(crate) fn are_of_run(words: &[String]) -> bool
-    ensures { result ≡ list_all (λ word. forms.is_operand word || forms.is_rounds word) (drop 1 (map string_bytes words.now)) }
+    ensures { result ≡ list_all (λ word. forms.is_operand word || forms.is_rounds word)
+        (drop 1 (map string_bytes words.now)) }
 {
     match words.split_first() {
         Some((_, rest)) => are_all_of_run(rest),

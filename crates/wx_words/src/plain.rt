@@ -30,7 +30,9 @@ pub enum PlainCommand<'a> {
 
 /// The command that the values of `match` make, where both are there.
 fn of_match<'a>(found: &ArgMatches<'a>) -> Option<PlainCommand<'a>>
-    ensures { option_map command_view result ≡ readers.both (first_value (found_of found.now) readers.pattern_id) (first_value (found_of found.now) readers.url_id) }
+    ensures { option_map command_view result
+        ≡ readers.both (first_value (found_of found.now) readers.pattern_id)
+        (first_value (found_of found.now) readers.url_id) }
 {
     match (found.get_str("pattern"), found.get_str("url")) {
         (Some(pattern), Some(url)) => Some(PlainCommand::Match { pattern, url }),
@@ -44,7 +46,8 @@ fn match_command<'a>(
     words: &'a [String],
 ) -> Result<Option<PlainCommand<'a>>, NoMemory>
     requires { list_all forms.is_operand (drop 1 (map string_bytes words.now)) ≡ true }
-    ensures { IfOk result (λ command. option_map command_view command ≡ forms.match_in (drop 1 (map string_bytes words.entry.now))) }
+    ensures { IfOk result (λ command. option_map command_view command
+        ≡ forms.match_in (drop 1 (map string_bytes words.entry.now))) }
 {
     match read_match(alloc, words) {
         Ok(found) => Ok(of_match(&found)),
@@ -65,7 +68,8 @@ fn file_behind<'a>(
     words: &'a [String],
 ) -> Result<Option<&'a str>, NoMemory>
     requires { list_all forms.is_operand (drop 1 (map string_bytes words.now)) ≡ true }
-    ensures { IfOk result (λ file. option_map (λ f. f.now) file ≡ forms.file_in (drop 1 (map string_bytes words.entry.now))) }
+    ensures { IfOk result (λ file. option_map (λ f. f.now) file
+        ≡ forms.file_in (drop 1 (map string_bytes words.entry.now))) }
 {
     match read_file(alloc, name, words) {
         Ok(found) => Ok(found.get_str("file")),
@@ -103,7 +107,8 @@ pub fn plain_command<'a>(
     alloc: Global,
     words: &'a [String],
 ) -> Result<Option<PlainCommand<'a>>, NoMemory>
-    ensures { IfOk result (λ command. option_map command_view command ≡ forms.plain_command_of (map string_bytes words.entry.now)) }
+    ensures { IfOk result (λ command. option_map command_view command
+        ≡ forms.plain_command_of (map string_bytes words.entry.now)) }
 {
     if !are_operands(words) {
         return Ok(None);

@@ -12,8 +12,10 @@ use wx_script::How;
 
 /// The scene of words that begin with `run` and have operands and the flag `--rounds` after it.
 fn run_scene_of<'a>(alloc: Global, words: &'a [String]) -> Result<Option<&'a str>, NoMemory>
-    requires { list_all (λ word. forms.is_operand word || forms.is_rounds word) (drop 1 (map string_bytes words.now)) ≡ true }
-    ensures { IfOk result (λ scene. option_map (λ name. name.now) scene ≡ forms.scene_in (drop 1 (map string_bytes words.entry.now))) }
+    requires { list_all (λ word. forms.is_operand word || forms.is_rounds word) (drop 1 (map string_bytes words.now))
+        ≡ true }
+    ensures { IfOk result (λ scene. option_map (λ name. name.now) scene
+        ≡ forms.scene_in (drop 1 (map string_bytes words.entry.now))) }
 {
     match read_run(alloc, words) {
         Ok(found) => Ok(found.get_str("scene")),
@@ -41,7 +43,8 @@ pub fn how_asked(words: &[String]) -> How
 /// The scene of the words of a run; other words name none. A word after the first that begins with `-` and is neither
 /// `-` alone nor `--rounds` is refused here, and the others are counted and read by `clap`.
 pub fn scene_named<'a>(alloc: Global, words: &'a [String]) -> Result<Option<&'a str>, NoMemory>
-    ensures { IfOk result (λ scene. option_map (λ name. name.now) scene ≡ forms.scene_named (map string_bytes words.entry.now)) }
+    ensures { IfOk result (λ scene. option_map (λ name. name.now) scene
+        ≡ forms.scene_named (map string_bytes words.entry.now)) }
 {
     if is_named("run", words) && are_of_run(words) {
         run_scene_of(alloc, words)

@@ -1,3 +1,4 @@
+//! Reads the files that a scene names, one after another.
 ghost use Rattle.std.specs.Prelude.{◌≡◌, ◌≤◌, IfOk, IfErr, OnOk};
 ghost use Rattle.wx_world.specs.declared.faults.WorldFault.TheVariants as fault;
 ghost use Rattle.wx_world.specs.Reading.{IsAdded, AddsNothing, IsWorldOf, HasCause, IsOfAFile};
