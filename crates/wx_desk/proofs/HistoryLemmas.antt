@@ -29,7 +29,7 @@ own_in-others [] history none = refl
 own_in-others (s ∷ others) history none =
     own_in-cons s (others ++ history)
     ∙ ap (λ (b : Bool). cond b 1 0 + own_in (others ++ history)) (others_first s others none)
-    ∙ own_in-others others history (others_rest s others none)
+    ∙ omega (arith, own_in-others others history (others_rest s others none))
 
 module _ {A : Type 0} {as_who : A → Who} where
   pub makes_none : (desk : DeskState A as_who) → MakesNone desk desk
