@@ -5,6 +5,7 @@ use Rattle.std.specs.List.{list_all}
 use Rattle.std.proofs.lemmas.Bool.{and_parts}
 use Rattle.std.proofs.lemmas.List.Elements.{filter-append}
 use Rattle.std.proofs.lemmas.Map.Views.{any-filter_same}
+use Rattle.wx_id.specs.Contexts.{is_among, is_other, same_context}
 use Rattle.wx_id.specs.declared.numbers.ContextNo.{ContextNo}
 use Rattle.wx_context.specs.declared.contexts.Target.{Target}
 use Rattle.wx_machine.specs.declared.sorts.Sort.{Sort}
@@ -12,10 +13,8 @@ use Rattle.wx_machine.specs.declared.entries.Who.TheVariants.{Context as ByConte
 use Rattle.wx_machine.specs.declared.entries.Call.TheVariants.{Leave}
 use Rattle.wx_machine.specs.declared.entries.Answer.{Answer}
 use Rattle.wx_machine.specs.declared.entries.Entry.{Entry}
-use Rattle.wx_machine.specs.Contexts.{context_of, has_left, is_by, if_numbered, is_leave, is_live, is_there, same_context, numbers, numbers_of, enters, is_receiver, receivers_of}
-use Rattle.wx_machine.specs.Channels.{is_among}
-use Rattle.wx_port.specs.Port.{is_other}
-use Rattle.wx_walks.proofs.EndsLater.{same_context_is}
+use Rattle.wx_machine.specs.Contexts.{context_of, has_left, is_by, if_numbered, is_leave, is_live, is_there, numbers, numbers_of, enters, is_receiver, receivers_of}
+use Rattle.wx_id.proofs.ContextLemmas.{same_context_is}
 use Rattle.wx_walks.proofs.Past.{came_more}
 use Rattle.wx_broker.proofs.TestsLater.{same_back, all_weaker, all_filtered}
 

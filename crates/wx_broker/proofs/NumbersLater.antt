@@ -1,8 +1,10 @@
 -- The contexts of a legal journal have distinct numbers, and so have the receivers of a call.
-use Rattle.std.proofs.Common.{◌≡◌, ◌+◌, ◌<◌, List, [], ◌∷◌, ◌++◌, refl, ap, sym, ◌∙◌, Bool, true, false, cond, not, arith, append-nil}
-use Rattle.std.specs.Prelude.{filter, ◌&&◌, ◌||◌}
+use Rattle.std.proofs.Common.{◌≡◌, ◌+◌, ◌<◌, List, [], ◌∷◌, ◌++◌, refl, ap, sym, ◌∙◌, Bool, true, false, cond, not, arith, append-nil, subst, length, ◌≤◌}
+use Rattle.std.specs.Prelude.{filter, ◌&&◌, ◌||◌, reverse, option_to_list}
 use Rattle.std.proofs.lemmas.Bool.{and_parts, true≢false, not-true, false_from_ne_true}
+use Rattle.std.proofs.lemmas.List.{length-append}
 use Rattle.std.proofs.lemmas.List.Folds.{list_any-append}
+use Rattle.wx_id.specs.Contexts.{are_distinct, is_among, same_context}
 use Rattle.wx_id.specs.declared.numbers.ContextNo.{ContextNo}
 use Rattle.wx_context.specs.declared.contexts.Target.{Target}
 use Rattle.wx_external.specs.World.{WorldLists}
@@ -14,11 +16,11 @@ use Rattle.wx_machine.specs.declared.entries.Call.TheVariants.{Enter}
 use Rattle.wx_machine.specs.declared.entries.Answer.{Answer}
 use Rattle.wx_machine.specs.declared.entries.Entry.{Entry}
 use Rattle.wx_machine.specs.Each.{EachAfter}
-use Rattle.wx_machine.specs.Contexts.{same_context, contexts, numbers, numbers_of, brought, is_enter, is_receiver, receivers_of, is_live, reaches_from, context_of, listens_of}
-use Rattle.wx_machine.specs.Channels.{is_among}
+use Rattle.wx_machine.specs.Contexts.{contexts, numbers, numbers_of, brought, is_enter, is_receiver, receivers_of, is_live, reaches_from, context_of, listens_of}
+use Rattle.wx_machine.specs.Hosts.{hosts, starts}
+use Rattle.wx_walks.proofs.Past.{reverse-push}
+use Rattle.wx_broker.specs.Steps.{KeepsNumbers}
 use Rattle.wx_machine.specs.Answers.{FollowsMachine, answer_after, may_make}
-use Rattle.wx_port.specs.Port.{are_apart}
-use Rattle.wx_one_shot.specs.Requests.{are_distinct}
 use Rattle.wx_broker.proofs.LivesLater.{among_passing}
 use Rattle.wx_broker.proofs.TestsLater.{and_false, or_false, same_self, same_back, same_is}
 
@@ -46,45 +48,45 @@ numbers_below world (e ∷ past) legal d h =
     by before false true is h = let low : d.0 < contexts past = before is in omega (arith, low)
     by before false false is h = absurd (true≢false (sym h))
 
-apart_push : (xs : List ContextNo) (y : ContextNo) → are_apart xs ≡ true → is_among xs y ≡ false → are_apart (xs ++ y ∷ []) ≡ true
-apart_push [] y apart none = refl
-apart_push (x ∷ xs) y apart none =
-    let parts : (not (is_among xs x) ≡ true) × (are_apart xs ≡ true) = and_parts _ _ apart in
-    by (same_context x y) refl (apart_push xs y parts.1) parts.0 none
+distinct_push : (xs : List ContextNo) (y : ContextNo) → are_distinct xs ≡ true → is_among xs y ≡ false → are_distinct (xs ++ y ∷ []) ≡ true
+distinct_push [] y apart none = refl
+distinct_push (x ∷ xs) y apart none =
+    let parts : (not (is_among xs x) ≡ true) × (are_distinct xs ≡ true) = and_parts _ _ apart in
+    by (same_context x y) refl (distinct_push xs y parts.1) parts.0 none
   where
-    by : (s : Bool) → same_context x y ≡ s → (is_among xs y ≡ false → are_apart (xs ++ y ∷ []) ≡ true) → not (is_among xs x) ≡ true → (s || is_among xs y) ≡ false → (not (is_among (xs ++ y ∷ []) x) && are_apart (xs ++ y ∷ [])) ≡ true
+    by : (s : Bool) → same_context x y ≡ s → (is_among xs y ≡ false → are_distinct (xs ++ y ∷ []) ≡ true) → not (is_among xs x) ≡ true → (s || is_among xs y) ≡ false → (not (is_among (xs ++ y ∷ []) x) && are_distinct (xs ++ y ∷ [])) ≡ true
     by true same rest first none = absurd (true≢false none)
     by false same rest first none =
-        ap (λ b. not b && are_apart (xs ++ y ∷ [])) (list_any-append (λ d. same_context d x) xs (y ∷ []))
-        ∙ ap (λ s. not (is_among xs x || (s || false)) && are_apart (xs ++ y ∷ [])) (same_back y.0 x.0 ∙ same)
-        ∙ ap (λ b. not b && are_apart (xs ++ y ∷ [])) (or_false (is_among xs x))
-        ∙ ap (λ b. b && are_apart (xs ++ y ∷ [])) first
+        ap (λ b. not b && are_distinct (xs ++ y ∷ [])) (list_any-append (λ d. same_context d x) xs (y ∷ []))
+        ∙ ap (λ s. not (is_among xs x || (s || false)) && are_distinct (xs ++ y ∷ [])) (same_back y.0 x.0 ∙ same)
+        ∙ ap (λ b. not b && are_distinct (xs ++ y ∷ [])) (or_false (is_among xs x))
+        ∙ ap (λ b. b && are_distinct (xs ++ y ∷ [])) first
         ∙ rest none
 
-numbers_apart : (world : WorldLists) (past : List Entry) → EachAfter (FollowsMachine world) past → are_apart (numbers past) ≡ true
-numbers_apart world [] legal = refl
-numbers_apart world (e ∷ past) legal = ap are_apart (numbers_grow world past e legal.1) ∙ by (numbers_apart world past legal.0) (is_enter e.call)
+numbers_distinct : (world : WorldLists) (past : List Entry) → EachAfter (FollowsMachine world) past → are_distinct (numbers past) ≡ true
+numbers_distinct world [] legal = refl
+numbers_distinct world (e ∷ past) legal = ap are_distinct (numbers_grow world past e legal.1) ∙ by (numbers_distinct world past legal.0) (is_enter e.call)
   where
     fresh : is_among (numbers past) (next past) ≡ false
     fresh = false_from_ne_true _ (λ h. let low : contexts past < contexts past = numbers_below world past legal.0 (next past) h in absurd (omega (arith, low)))
 
-    by : are_apart (numbers past) ≡ true → (b : Bool) → are_apart (numbers past ++ cond b (next past ∷ []) []) ≡ true
-    by before true = apart_push (numbers past) (next past) before fresh
-    by before false = ap are_apart (append-nil (numbers past)) ∙ before
+    by : are_distinct (numbers past) ≡ true → (b : Bool) → are_distinct (numbers past ++ cond b (next past ∷ []) []) ≡ true
+    by before true = distinct_push (numbers past) (next past) before fresh
+    by before false = ap are_distinct (append-nil (numbers past)) ∙ before
 
-apart_filter : (p : ContextNo → Bool) (xs : List ContextNo) → are_apart xs ≡ true → are_apart (filter p xs) ≡ true
-apart_filter p [] apart = refl
-apart_filter p (x ∷ xs) apart =
-    let parts : (not (is_among xs x) ≡ true) × (are_apart xs ≡ true) = and_parts _ _ apart in
-    by (p x) (apart_filter p xs parts.1) (among_passing p xs x ∙ ap (λ b. p x && b) (not-true _ parts.0) ∙ and_false (p x))
+distinct_filter : (p : ContextNo → Bool) (xs : List ContextNo) → are_distinct xs ≡ true → are_distinct (filter p xs) ≡ true
+distinct_filter p [] apart = refl
+distinct_filter p (x ∷ xs) apart =
+    let parts : (not (is_among xs x) ≡ true) × (are_distinct xs ≡ true) = and_parts _ _ apart in
+    by (p x) (distinct_filter p xs parts.1) (among_passing p xs x ∙ ap (λ b. p x && b) (not-true _ parts.0) ∙ and_false (p x))
   where
-    by : (b : Bool) → are_apart (filter p xs) ≡ true → is_among (filter p xs) x ≡ false → are_apart (cond b (x ∷ filter p xs) (filter p xs)) ≡ true
+    by : (b : Bool) → are_distinct (filter p xs) ≡ true → is_among (filter p xs) x ≡ false → are_distinct (cond b (x ∷ filter p xs) (filter p xs)) ≡ true
     by true rest none = rw (none, rest) refl
     by false rest none = rest
 
 -- the receivers of a call are distinct
-pub receivers_apart : (world : WorldLists) (past : List Entry) (c : ContextNo) (target : Target) (sort : Sort) → EachAfter (FollowsMachine world) past → are_apart (receivers_of past c target sort) ≡ true
-receivers_apart world past c target sort legal = apart_filter (is_receiver past c target sort) (numbers past) (numbers_apart world past legal)
+pub receivers_distinct : (world : WorldLists) (past : List Entry) (c : ContextNo) (target : Target) (sort : Sort) → EachAfter (FollowsMachine world) past → are_distinct (receivers_of past c target sort) ≡ true
+receivers_distinct world past c target sort legal = distinct_filter (is_receiver past c target sort) (numbers past) (numbers_distinct world past legal)
 
 -- and the caller is none of them
 pub caller_apart : (past : List Entry) (c : ContextNo) (target : Target) (sort : Sort) → is_among (receivers_of past c target sort) c ≡ false
@@ -92,7 +94,9 @@ caller_apart past c target sort =
     among_passing (is_receiver past c target sort) (numbers past) c
     ∙ ap (λ b. ((not b && is_live past c) && reaches_from (context_of past c) target sort (context_of past c) (listens_of past c)) && is_among (numbers past) c) (same_self c.0)
 
--- two spellings of distinct contexts
-pub distinct_is : (cs : List ContextNo) → are_distinct cs ≡ are_apart cs
-distinct_is [] = refl
-distinct_is (c ∷ cs) = ap (λ b. not (is_among cs c) && b) (distinct_is cs)
+-- one more entry takes no number back
+pub numbers_kept : (journal : List Entry) (e : Entry) → KeepsNumbers journal (journal ++ e ∷ [])
+numbers_kept journal e = record {
+  contexts_stay = rw (reverse-push journal e) (omega arith);
+  hosts_stay = rw (reverse-push journal e) (subst (λ n. length (hosts (reverse journal)) ≤ n) (sym (length-append (hosts (reverse journal)) (option_to_list (starts (reverse journal) e)))) (omega arith));
+}

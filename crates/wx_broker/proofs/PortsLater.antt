@@ -6,6 +6,7 @@ use Rattle.std.specs.List.{list_all, list_any}
 use Rattle.std.proofs.lemmas.Bool.{false≢true}
 use Rattle.std.proofs.lemmas.Option.{slice_get_past, slice_get-map}
 use Rattle.std.proofs.lemmas.List.Elements.{filter_agree}
+use Rattle.wx_id.specs.Contexts.{is_among, is_other, same_context}
 use Rattle.wx_id.specs.declared.numbers.ChannelNo.{ChannelNo}
 use Rattle.wx_id.specs.declared.numbers.ContextNo.{ContextNo}
 use Rattle.wx_id.specs.declared.numbers.HostNo.{HostNo}
@@ -21,12 +22,12 @@ use Rattle.wx_machine.specs.declared.entries.Answer.{Answer}
 use Rattle.wx_machine.specs.declared.entries.Answer.TheVariants.{Channel as OnChannel, NoEffect, Done, Gone}
 use Rattle.wx_machine.specs.declared.entries.Entry.{Entry}
 use Rattle.wx_machine.specs.declared.entries.Reason.{Reason}
-use Rattle.wx_machine.specs.Contexts.{is_live, is_leave, receivers_of, same_context}
-use Rattle.wx_machine.specs.Channels.{Ends, opens, opened_by, channels, channel, is_among, end_in}
+use Rattle.wx_machine.specs.Contexts.{is_live, is_leave, receivers_of}
+use Rattle.wx_machine.specs.Channels.{Ends, opens, opened_by, channels, channel, end_in}
 use Rattle.wx_machine.specs.Hosts.{is_for_channel, work_of}
 use Rattle.wx_machine.specs.Closing.{is_one, leaving, ends_by, ends_channel, closed_at, is_closed}
 use Rattle.wx_machine.specs.Answers.{at_end}
-use Rattle.wx_port.specs.Port.{Port, is_other, end_of, is_open_port, closed, with_live, opened, left_by}
+use Rattle.wx_port.specs.Port.{Port, end_of, is_open_port, closed, with_live, opened, left_by}
 use Rattle.wx_walks.proofs.EndsLater.{channels_more, channel_more}
 use Rattle.wx_broker.specs.Tables.{port_said, HasChannels, is_done}
 use Rattle.wx_broker.proofs.TestsLater.{or_false, and_true, not_not, same_is, has_some, any_passes, filter_where, filter_whole, filter_twice, all_weaker, all_fail, rows_length, rows_changed, rows_more, map_whole, shorter}

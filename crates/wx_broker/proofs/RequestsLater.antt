@@ -6,6 +6,8 @@ use Rattle.std.specs.List.{list_all, list_any}
 use Rattle.std.proofs.lemmas.Bool.{and_parts, not-true, false≢true}
 use Rattle.std.proofs.lemmas.Option.{slice_get_past, slice_get-map}
 use Rattle.std.proofs.lemmas.List.Elements.{filter_agree}
+use Rattle.wx_id.proofs.ContextLemmas.{same_context_is}
+use Rattle.wx_id.specs.Contexts.{is_among, is_other, same_context}
 use Rattle.wx_id.specs.declared.numbers.RequestNo.{RequestNo}
 use Rattle.wx_id.specs.declared.numbers.ContextNo.{ContextNo}
 use Rattle.wx_id.specs.declared.numbers.HostNo.{HostNo}
@@ -19,15 +21,14 @@ use Rattle.wx_machine.specs.declared.entries.Answer.{Answer}
 use Rattle.wx_machine.specs.declared.entries.Answer.TheVariants.{Request as OnRequest, First, Done, Gone, TooLong}
 use Rattle.wx_machine.specs.declared.entries.Entry.{Entry}
 use Rattle.wx_machine.specs.declared.entries.TheConstants.{LONGEST}
-use Rattle.wx_machine.specs.Contexts.{is_live, is_leave, receivers_of, same_context}
-use Rattle.wx_machine.specs.Channels.{is_among}
+use Rattle.wx_machine.specs.Contexts.{is_live, is_leave, receivers_of}
 use Rattle.wx_machine.specs.Requests.{Parties, asks, asked_by, requests, request, is_asked}
 use Rattle.wx_machine.specs.Hosts.{is_for_request, work_of}
 use Rattle.wx_machine.specs.Settling.{is_decline, has_declined, is_open_to, has_open, settles_by, ends_request, settled_at, is_settled}
 use Rattle.wx_machine.specs.Answers.{on_request, is_late, where_short}
 use Rattle.wx_one_shot.specs.declared.requests.Standing.TheVariants.{Open, Late, Stranger}
-use Rattle.wx_one_shot.specs.Requests.{Request, asked, settled, is_other, left_to, without, left_by, standing_at, is_unsettled_at}
-use Rattle.wx_walks.proofs.EndsLater.{place_more, same_context_is}
+use Rattle.wx_one_shot.specs.Requests.{Request, asked, settled, left_to, without, left_by, standing_at, is_unsettled_at}
+use Rattle.wx_walks.proofs.EndsLater.{place_more}
 use Rattle.wx_walks.proofs.RequestsLater.{requests_more}
 use Rattle.wx_broker.specs.Tables.{request_said, HasRequests, IsAwaited, AreAwaited, is_done, is_first, on_standing}
 use Rattle.wx_broker.proofs.TestsLater.{or_false, and_false, and_true, same_back, same_self, same_is, has_some, nil_test, any_passes, filter_where, filter_whole, filter_twice, all_weaker, all_fail, rows_length, rows_changed, rows_more, map_whole, shorter}
@@ -487,10 +488,6 @@ answered_on past rows r c x has = by (is_live past c) refl
     by true live = ap (λ o. on_standing (standing_at o c) x) (has r) ∙ at live (request past r)
     by false live = refl
 
-last_two : (a b : Bool) → (a && b) ≡ true → b ≡ true
-last_two true b h = h
-last_two false b h = absurd (false≢true h)
-
 -- a reply that is answered `First` finds the request unsettled
 pub first_unsettled : (past : List Entry) (c : ContextNo) (r : ℕ) (text : List ℕ) (rows : List Request) (answer : Answer) → answer ≡ cond (is_live past c) (on_request (is_asked (request past r) c) (is_late past r c) (where_short text First)) Gone → HasRequests past rows → is_first answer ≡ true → is_unsettled_at (slice_get rows r) ≡ true
 first_unsettled past c r text rows answer answered has first =
@@ -499,7 +496,7 @@ first_unsettled past c r text rows answer answered has first =
   where
     by : (o : Option Parties) → (is_asked o c && is_open_to past r c && not (nat_lt LONGEST (length text)) && not (is_settled past r)) ≡ true → is_unsettled_at (option_map (request_said past r) o) ≡ true
     by None h = absurd (false≢true h)
-    by (Some parties) h = last_two (is_among parties.receivers c && is_open_to past r c && not (nat_lt LONGEST (length text))) (not (is_settled past r)) h
+    by (Some parties) h = (and_parts (is_among parties.receivers c && is_open_to past r c && not (nat_lt LONGEST (length text))) (not (is_settled past r)) h).1
 
 pub unsettled_there : (o : Option Request) → is_unsettled_at o ≡ true → is_some o ≡ true
 unsettled_there None h = absurd (false≢true h)

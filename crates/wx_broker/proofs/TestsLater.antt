@@ -6,6 +6,7 @@ use Rattle.std.specs.List.{list_all, list_any}
 use Rattle.std.proofs.lemmas.Bool.{and_parts, true≢false, false≢true}
 use Rattle.std.proofs.lemmas.Bool.Decides.{nat_tests, Decides-eqb}
 use Rattle.std.proofs.lemmas.Option.{none-some, same_Some}
+use Rattle.std.proofs.Math.Dec.{eqb-suc-suc, eqb-suc-zero, eqb-zero-suc}
 use Rattle.wx_walks.proofs.EndsLater.{place_more}
 
 pub or_false : (a : Bool) → (a || false) ≡ a
@@ -33,15 +34,6 @@ same_self m = grind (arith, nat_tests)
 pub same_is : (m n : ℕ) → (m == n) ≡ true → m ≡ n
 same_is m n h = (Decides-eqb m n).0 h
 
-zero_suc : (n : ℕ) → (0 == suc n) ≡ false
-zero_suc n = grind (arith, nat_tests)
-
-suc_zero : (n : ℕ) → (suc n == 0) ≡ false
-suc_zero n = grind (arith, nat_tests)
-
-suc_suc : (m n : ℕ) → (suc m == suc n) ≡ (m == n)
-suc_suc m n = grind (arith, nat_tests)
-
 -- what is at most k long with one more element, if it has one, is so without
 pub shorter : (b : Bool) (m n k : ℕ) → n ≡ cond b (m + 1) m → n ≤ k → m ≤ k
 shorter true m n k e h = omega (arith, e, h)
@@ -58,7 +50,7 @@ has_some (x ∷ xs) = true
 
 pub nil_test : {X : Type 0} (xs : List X) → (length xs == 0) ≡ not (has_some xs)
 nil_test [] = same_self 0
-nil_test (x ∷ xs) = suc_zero (length xs)
+nil_test (x ∷ xs) = eqb-suc-zero (length xs)
 
 -- some element passes exactly where the passing ones are some
 pub any_passes : {X : Type 0} (p : X → Bool) (xs : List X) → list_any p xs ≡ has_some (filter p xs)
@@ -163,9 +155,9 @@ map_whole (Some x) = refl
 pub row_set : {B : Type 0} (change : B → B) (rows : List B) (k : ℕ) (row : B) (j : ℕ) → slice_get rows k ≡ Some row → slice_get (set rows k (change row)) j ≡ option_map (λ r. cond (k == j) (change r) r) (slice_get rows j)
 row_set change [] k row j h = absurd (none-some row h)
 row_set change (y ∷ ys) zero row zero h = ap (λ r. Some (change r)) (sym (same_Some y row h))
-row_set change (y ∷ ys) zero row (suc j) h = rw (zero_suc j) (map_whole (slice_get ys j))
-row_set change (y ∷ ys) (suc k) row zero h = rw (suc_zero k) refl
-row_set change (y ∷ ys) (suc k) row (suc j) h = rw (suc_suc k j) (row_set change ys k row j h)
+row_set change (y ∷ ys) zero row (suc j) h = rw (eqb-zero-suc j) (map_whole (slice_get ys j))
+row_set change (y ∷ ys) (suc k) row zero h = rw (eqb-suc-zero k) refl
+row_set change (y ∷ ys) (suc k) row (suc j) h = rw (eqb-suc-suc k j) (row_set change ys k row j h)
 
 -- a row is changed where a test holds, as contracts say it
 pub row_changed : {B : Type 0} (change : B → B) (rows rows' : List B) (k : ℕ) (b : Bool) → b ≡ true → is_some (slice_get rows k) ≡ true → IfSome (slice_get rows k) (λ row. rows' ≡ set rows k (change row)) → (j : ℕ) → slice_get rows' j ≡ option_map (λ r. cond (b && (k == j)) (change r) r) (slice_get rows j)

@@ -26,7 +26,7 @@ within_more m n m' n' None a b h = tt
 within_more m n m' n' (Some (ForChannel k)) a b h = omega (arith, a, h)
 within_more m n m' n' (Some (ForRequest r)) a b h = omega (arith, b, h)
 
--- what the host that an entry starts works for is there behind it
+-- what the host that an entry starts works for is there after it
 started_within : (past : List Entry) (who : Who) (call : Call) (answer : Answer) → let e : Entry = record { who = who; call = call; answer = answer } in IsWithin (length (channels (e ∷ past))) (length (requests (e ∷ past))) (work_in (started_by past who call answer))
 started_within past (ByContext c) (ConnectNative name) (OnChannel k) =
     let e : Entry = record { who = ByContext c; call = ConnectNative name; answer = OnChannel k } in

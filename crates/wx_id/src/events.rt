@@ -1,3 +1,4 @@
+//! What events tell contexts, and what a context is to a channel.
 use crate::numbers::{ChannelNo, EntryNo, RequestNo};
 
 /// What an event tells the context that takes it.

@@ -1,3 +1,4 @@
+//! The numbers of contexts, channels, requests, hosts, entries, tabs and frames.
 /// The number of a context, from 0 in the order of entering.
 #[derive(Clone, Copy, Debug, PartialEq, Eq)]
 pub struct ContextNo(pub u64);

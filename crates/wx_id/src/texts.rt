@@ -1,12 +1,29 @@
+//! A text as its bytes, and the want of memory.
 ghost use Rattle.std.specs.Prelude.{◌≡◌, IfOk, IsTrue};
 ghost use Rattle.std.specs.Str.{is_utf8};
 
-use std::alloc::Global;
+use std::alloc::{AllocError, AllocFailed, Global};
 use std::marker::Model;
 
 /// Memory was refused.
 #[derive(Clone, Copy, Debug, PartialEq, Eq)]
 pub struct NoMemory;
+
+impl From<AllocError> for NoMemory {
+    ghost from_gives = { λ _ e. e ≡ record {} };
+
+    fn from(_e: AllocError) -> NoMemory {
+        NoMemory
+    }
+}
+
+impl<T: Drop> From<AllocFailed<T>> for NoMemory {
+    ghost from_gives = { λ _ e. e ≡ record {} };
+
+    fn from(_e: AllocFailed<T>) -> NoMemory {
+        NoMemory
+    }
+}
 
 /// A text in UTF-8 that contracts see as its list of bytes.
 #[derive(Debug, Drop)]
@@ -27,10 +44,8 @@ impl Utf8Text {
     pub fn new(alloc: Global, text: &str) -> Result<Utf8Text, NoMemory>
         ensures { IfOk result (λ copy. copy ≡ text.now) }
     {
-        match String::from_str(alloc, text) {
-            Ok(text) => Ok(Utf8Text { text }),
-            Err(_) => Err(NoMemory),
-        }
+        let text = String::from_str(alloc, text)?;
+        Ok(Utf8Text { text })
     }
 
     /// The text.
@@ -45,9 +60,7 @@ impl Utf8Text {
     pub fn try_clone(&self) -> Result<Utf8Text, NoMemory>
         ensures { IfOk result (λ copy. copy ≡ self.now) }
     {
-        match self.text.clone() {
-            Ok(text) => Ok(Utf8Text { text }),
-            Err(_) => Err(NoMemory),
-        }
+        let text = self.text.clone()?;
+        Ok(Utf8Text { text })
     }
 }

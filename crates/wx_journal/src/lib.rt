@@ -2,10 +2,6 @@
 #![tactic(auto)]
 
 mod list;
-#[cfg(test)]
-mod read_tests;
-#[cfg(test)]
-mod tests;
 
 pub use list::Journal;
 pub use wx_journal_read::{JournalFault, JournalKind, JournalReadFault};

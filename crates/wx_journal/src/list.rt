@@ -1,3 +1,4 @@
+//! The list of entries, its text, and the reports on its channels and requests.
 ghost use Rattle.std.specs.Prelude.{◌≡◌, List, Ok, ◌+◌, ◌<◌, ◌≤◌, [], ◌∷◌, ◌++◌, length, IfOk, IfErr, OnOk, OnErr, IsOk, slice_get, option_copied, ◌==◌, reverse};
 ghost use Rattle.std.specs.Option.{option_and_then, option_map, IfSome};
 ghost use Rattle.wx_external.specs.World.{WorldLists};
@@ -66,6 +67,7 @@ impl Journal {
     pub fn push(&mut self, e: Entry) -> Result<(), Entry>
         ensures ok { OnOk result (self.new.entries ≡ self.old.entries ++ e ∷ []) }
         ensures err { OnErr result (self.new.entries ≡ self.old.entries) }
+        ensures kept { OnErr result (self.old.spare ≤ self.new.spare) }
         ensures returned { IfErr result (λ back. back ≡ e) }
         ensures room { 0 < self.old.spare → IsOk result }
         ensures spare { self.old.spare ≤ self.new.spare + 1 }
@@ -76,16 +78,24 @@ impl Journal {
         }
     }
 
-    /// Makes room for so many more entries.
+    /// Makes room for so many more entries. Where there is so much room it succeeds.
     pub fn reserve(&mut self, n: u64) -> Result<(), NoMemory>
         ensures same { self.new.entries ≡ self.old.entries }
         ensures ok { OnOk result (n ≤ self.new.spare) }
         ensures kept { self.old.spare ≤ self.new.spare }
+        ensures room { n ≤ self.old.spare → IsOk result }
     {
-        match self.entries.reserve(n as usize) {
-            Ok(()) => Ok(()),
-            Err(_) => Err(NoMemory),
-        }
+        self.entries.reserve(n as usize)?;
+        Ok(())
+    }
+
+    /// Appends an entry that there is room for.
+    pub fn push_reserved(&mut self, e: Entry)
+        requires { 0 < self.old.spare }
+        ensures entries { self.new.entries ≡ self.old.entries ++ e ∷ [] }
+        ensures spare { self.new.spare + 1 ≡ self.old.spare }
+    {
+        self.entries.push_reserved(e);
     }
 
     /// How many more entries have room.
@@ -118,7 +128,8 @@ impl Journal {
 
     /// The JSON text that the entry's call carries, where there is such an entry and it carries one.
     pub fn text_of(&self, e: EntryNo) -> Option<&JsonText>
-        ensures { option_copied result ≡ option_and_then (λ entry. text_in entry.call) (slice_get self.now.entries e.0) }
+        ensures { option_copied result
+            ≡ option_and_then (λ entry. text_in entry.call) (slice_get self.now.entries e.0) }
     {
         match self.entries.get(e.0 as usize) {
             Some(entry) => text_of_call(&entry.call),
@@ -137,9 +148,12 @@ impl Journal {
     /// messaging hold of the channel, with the entry that the report says closed it.
     pub fn port_report(&self, k: ChannelNo) -> Option<PortReport>
         ensures value { result ≡ port_report (reverse self.now.entries) k.0 }
-        ensures laws { (world : WorldLists) → IsLegal world self.now.entries → IfSome result (λ report. KeepsChannel self.now.entries k.0 (option_map (λ n. n.0) report.closed)) }
-        ensures given { (world : WorldLists) → IsLegal world self.now.entries → IfSome result (λ report. report.posted ≡ given_on (reverse self.now.entries) k.0) }
-        ensures taken { (world : WorldLists) → IsLegal world self.now.entries → IfSome result (λ report. report.taken ≡ taken_on (reverse self.now.entries) k.0) }
+        ensures laws { (world : WorldLists) → IsLegal world self.now.entries
+            → IfSome result (λ report. KeepsChannel self.now.entries k.0 (option_map (λ n. n.0) report.closed)) }
+        ensures given { (world : WorldLists) → IsLegal world self.now.entries
+            → IfSome result (λ report. report.posted ≡ given_on (reverse self.now.entries) k.0) }
+        ensures taken { (world : WorldLists) → IsLegal world self.now.entries
+            → IfSome result (λ report. report.taken ≡ taken_on (reverse self.now.entries) k.0) }
     {
         port_report(self.entries(), k)
     }
@@ -155,8 +169,10 @@ impl Journal {
 
     /// Reads the journal whose text the bytes are. Whether the broker would answer so is not asked.
     pub fn read(alloc: Global, bytes: &[u8]) -> Result<Journal, JournalReadFault>
-        ensures found { IfOk result (λ journal. JournalFits journal.entries × (bytes.now ≡ journal_text journal.entries)) }
-        ensures only { (entries : List Entry) → JournalFits entries → bytes.now ≡ journal_text entries → GivesWhole (λ journal. journal.entries) result (Ok entries) }
+        ensures found { IfOk result (λ journal. JournalFits journal.entries
+            × (bytes.now ≡ journal_text journal.entries)) }
+        ensures only { (entries : List Entry) → JournalFits entries → bytes.now ≡ journal_text entries
+            → GivesWhole (λ journal. journal.entries) result (Ok entries) }
         ensures fault { IfBad result (IsFault bytes.now) }
     {
         match read(alloc, bytes) {
@@ -173,9 +189,7 @@ impl Journal {
     {
         fits::journal(&self.entries);
         different_texts();
-        match print(alloc, &self.entries) {
-            Ok(text) => Ok(text),
-            Err(_) => Err(NoMemory),
-        }
+        let text = print(alloc, &self.entries)?;
+        Ok(text)
     }
 }

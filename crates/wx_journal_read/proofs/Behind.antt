@@ -1,4 +1,4 @@
--- What stands behind a word, by the test of a front.
+-- What stands after a word, by the test of a front.
 use Rattle.std.proofs.Common.{◌≡◌, ℕ, true, false, ◌&&◌, cond, List, [], ◌∷◌, length, drop, Some, None, refl, nat_eq}
 use Rattle.std.specs.List.{starts_with}
 use Rattle.std.specs.Prelude.{◌==◌}

@@ -40,7 +40,7 @@ pub fewer : (journal : List Entry) → length journal ≤ length (flat_map entry
 fewer [] = omega arith
 fewer (e ∷ journal) = omega (arith, some_text e, fewer journal, length-append (entry_text e) (flat_map entry_text journal))
 
--- what stands behind a run of whole entries
+-- what stands after a run of whole entries
 pub run_then : (journal : List Entry) (n : ℕ) (rest : List ℕ) → JournalFits journal → length journal ≤ n → length (flat_map entry_text journal ++ rest) < 2 ^ 64
     → entries_at n (flat_map entry_text journal ++ rest) ≡ (journal ++ (entries_at (n - length journal) rest).0, (entries_at (n - length journal) rest).1)
 run_then journal n rest fits many short =

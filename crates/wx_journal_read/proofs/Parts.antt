@@ -4,7 +4,7 @@ use Rattle.std.specs.Prelude.{IsTrue, codes, decimal, ◌==◌, nat_lt}
 use Rattle.std.specs.Char.{is_ascii_digit}
 use Rattle.std.specs.List.{list_all}
 use Rattle.std.specs.Str.{all_ascii_digits, is_utf8}
-use Rattle.std.proofs.lemmas.Bool.{eqb-true, le-ltb}
+use Rattle.std.proofs.lemmas.Bool.{and_parts, eqb-true, le-ltb}
 use Rattle.std.proofs.lemmas.Bool.Decides.{nat_tests}
 use Rattle.std.proofs.lemmas.List.{take_at, drop_at, take-append-drop}
 use Rattle.std.proofs.lemmas.Option.{cond_some}
@@ -21,7 +21,8 @@ use Rattle.wx_context.specs.declared.contexts.Listens.{Listens}
 use Rattle.wx_machine.specs.declared.entries.Who.{Who}
 use Rattle.wx_machine.specs.declared.entries.Who.TheVariants.{Context as ByContext, Host as ByHost}
 use Rattle.wx_journal_text.specs.Text.{sized, who_text, frame_text, target_text, context_text, flag, listens_text}
-use Rattle.wx_journal_read.specs.Reading.{where_so, Reader, behind, sized_at, both_at}
+use Rattle.wx_id.specs.Options.{where_so}
+use Rattle.wx_journal_read.specs.Reading.{Reader, behind, sized_at, both_at}
 use Rattle.wx_journal_read.specs.Fits.{is_url, WhoFits, FrameFits, TargetFits, ContextFits}
 use Rattle.wx_journal_read.specs.Grammar.{n32, n64, sp, id_at, who_at, frame_at, target_at, page_at, content_at, web_at, context_at, flag_at, listens_at, who_rows, frame_rows, target_rows, context_rows, flag_rows}
 use Rattle.wx_journal_read.proofs.Fields.{Reads, ends_number, number_reads, sized_reads, own}
@@ -43,10 +44,6 @@ not_none : {A : Type 0} (b : Bool) (r : Option A) (y : A) → cond b None r ≡ 
 not_none true r y e = absurd cc
 not_none false r y e = e
 
-last_true : (a b : Bool) → (a && b) ≡ true → b ≡ true
-last_true true b e = e
-last_true false b e = absurd cc
-
 id_reads : Reads (λ (id : List ℕ). id) (Passes is_extension_id) id_at
 unfolding id_at
 id_reads = record {
@@ -55,7 +52,7 @@ id_reads = record {
       let q = cond_some _ _ _ some in
       subst (λ (y : List ℕ × List ℕ). IsTrue (is_extension_id y.0) × (bytes ≡ y.0 ++ y.1)) q.1 (q.0, sym (take-append-drop 32 bytes));
   again = λ id rest fits short ends.
-      let last : (length id == 32) ≡ true = last_true (list_all is_id_letter id) (length id == 32) fits in
+      let last : (length id == 32) ≡ true = (and_parts (list_all is_id_letter id) (length id == 32) fits).1 in
       let len : length id ≡ 32 = eqb-true _ _ last in
       let long : nat_lt (length (id ++ rest)) 32 ≡ false = le-ltb _ _ (omega (arith, length-append id rest)) in
       rw (long, take_at id rest 32 len, drop_at id rest 32 len, fits) refl;

@@ -37,7 +37,7 @@ run_takes (suc n) bytes small =
           }
     ] refl
 
--- what is spelled as a run is read as that run, and then what is read behind it
+-- what is spelled as a run is read as that run, and then what is read after it
 pub run_again : (journal : List Entry) (n : ℕ) (rest : List ℕ) → JournalFits journal → length (flat_map entry_text journal ++ rest) < 2 ^ 64
     → entries_at (length journal + n) (flat_map entry_text journal ++ rest) ≡ (journal ++ (entries_at n rest).0, (entries_at n rest).1)
 unfolding entries_at

@@ -11,7 +11,7 @@ use Rattle.wx_journal_read.specs.Fits.{JournalFits}
 abbrev pub head : List ℕ
 head = codes "wx journal 1 chrome\n"
 
--- the journal has the longest run of whole entry lines behind the head line, and something stands behind it
+-- the journal has the longest run of whole entry lines after the head line, and something stands after it
 pub record IsLongest (bytes : List ℕ) (journal : List Entry) (rest : List ℕ) : Type 0 where
   pub fits : JournalFits journal
   pub whole : bytes ≡ journal_text journal ++ rest

@@ -25,7 +25,8 @@ use Rattle.wx_machine.specs.declared.entries.Answer.{Answer}
 use Rattle.wx_machine.specs.declared.entries.Answer.TheVariants.{Entered, Channel as OnChannel, Request as OnRequest, Event as Told, Text as HasText, Done, Gone, BadTarget, Forbidden, NoReceiver, Posted, NoPort, PortClosed, TooLong, NoEffect, First, Late, NotYours, Empty, NoPermission, BadHostName, HostNotFound, HostForbidden, End as NoMore, Passed, Ignored, Already}
 use Rattle.wx_machine.specs.declared.entries.Entry.{Entry}
 use Rattle.wx_journal_read.specs.Fits.{is_url}
-use Rattle.wx_journal_read.specs.Reading.{◌>>=◌, where_so, Reader, Rows, behind, number_at, sized_at, both_at, mapped, just, choice, choice_or}
+use Rattle.wx_id.specs.Options.{◌>>=◌, where_so}
+use Rattle.wx_journal_read.specs.Reading.{Reader, Rows, behind, number_at, sized_at, both_at, mapped, just, choice, choice_or}
 
 -- numbers
 abbrev pub n32 : Reader ℕ
@@ -50,7 +51,7 @@ who_rows =
 unfoldable pub who_at : Reader Who
 who_at = choice who_rows
 
--- any frame, or behind the empty word a number
+-- any frame, or after the empty word a number
 abbrev pub frame_rows : Rows (Option FrameId)
 frame_rows =
     (codes "*", just None)
@@ -331,7 +332,7 @@ abbrev pub entries_with : List ℕ → Option (Entry × List ℕ) → (List ℕ 
 entries_with bytes None more = ([], bytes)
 entries_with bytes (Some x) more = (x.0 ∷ (more x.1).0, (more x.1).1)
 
--- the whole entries in front, at most n, and what stands behind them
+-- the whole entries in front, at most n, and what stands after them
 unfoldable pub entries_at : ℕ → List ℕ → List Entry × List ℕ
 entries_at zero bytes = ([], bytes)
 entries_at (suc n) bytes = entries_with bytes (entry_at bytes) (entries_at n)

@@ -12,7 +12,7 @@ use std::alloc::Global;
 use wx_id::{ChannelNo, RequestNo};
 use wx_machine::Call;
 
-/// A connect, behind its word.
+/// A connect, after its word.
 #[tactic(auto, unfolding(crate::specs::Grammar::connect_at))]
 fn connect(alloc: Global, bytes: &[u8]) -> Result<(Call, &[u8]), Fault>
     ensures { Gives (λ x. (x.0, x.1.now)) result (grammar.connect_at bytes.now) }
@@ -26,7 +26,7 @@ fn connect(alloc: Global, bytes: &[u8]) -> Result<(Call, &[u8]), Fault>
     Ok((Call::Connect(to, name), rest))
 }
 
-/// A post, behind its word.
+/// A post, after its word.
 #[tactic(auto, unfolding(crate::specs::Grammar::post_at))]
 fn post(alloc: Global, bytes: &[u8]) -> Result<(Call, &[u8]), Fault>
     ensures { Gives (λ x. (x.0, x.1.now)) result (grammar.post_at bytes.now) }
@@ -37,7 +37,7 @@ fn post(alloc: Global, bytes: &[u8]) -> Result<(Call, &[u8]), Fault>
     Ok((Call::Post(ChannelNo(k), text), rest))
 }
 
-/// A send, behind its word.
+/// A send, after its word.
 #[tactic(auto, unfolding(crate::specs::Grammar::send_at))]
 fn send(alloc: Global, bytes: &[u8]) -> Result<(Call, &[u8]), Fault>
     ensures { Gives (λ x. (x.0, x.1.now)) result (grammar.send_at bytes.now) }
@@ -51,7 +51,7 @@ fn send(alloc: Global, bytes: &[u8]) -> Result<(Call, &[u8]), Fault>
     Ok((Call::Send(to, text), rest))
 }
 
-/// A reply, behind its word.
+/// A reply, after its word.
 #[tactic(auto, unfolding(crate::specs::Grammar::reply_at))]
 fn reply(alloc: Global, bytes: &[u8]) -> Result<(Call, &[u8]), Fault>
     ensures { Gives (λ x. (x.0, x.1.now)) result (grammar.reply_at bytes.now) }
@@ -62,7 +62,7 @@ fn reply(alloc: Global, bytes: &[u8]) -> Result<(Call, &[u8]), Fault>
     Ok((Call::Reply(RequestNo(r), text), rest))
 }
 
-/// A send to a native host, behind its word.
+/// A send to a native host, after its word.
 #[tactic(auto, unfolding(crate::specs::Grammar::send_native_at))]
 fn send_native(alloc: Global, bytes: &[u8]) -> Result<(Call, &[u8]), Fault>
     ensures { Gives (λ x. (x.0, x.1.now)) result (grammar.send_native_at bytes.now) }

@@ -14,7 +14,7 @@ pub enum JournalKind {
     Line,
 }
 
-/// Where the text of a journal goes wrong: at 0 where it has no head line; else behind the longest run of whole
+/// Where the text of a journal goes wrong: at 0 where it has no head line; else after the longest run of whole
 /// entry lines.
 #[derive(Clone, Copy, Debug, PartialEq, Eq)]
 pub struct JournalFault {

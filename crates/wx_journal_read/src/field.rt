@@ -8,7 +8,7 @@ ghost use Rattle.wx_journal_read.specs.Reading as reading;
 
 use crate::fault::Fault;
 
-/// What stands behind this word.
+/// What stands after this word.
 #[tactic(auto, using(crate::proofs::Behind::behind_is))]
 pub fn behind<'a>(word: &[u8], bytes: &'a [u8]) -> Option<&'a [u8]>
     ensures { option_map (λ r. r.now) result ≡ reading.behind word.now bytes.now }
@@ -21,7 +21,7 @@ pub fn behind<'a>(word: &[u8], bytes: &'a [u8]) -> Option<&'a [u8]>
     }
 }
 
-/// What stands behind this word, which must stand there.
+/// What stands after this word, which must stand there.
 pub fn skip<'a>(word: &[u8], bytes: &'a [u8]) -> Result<&'a [u8], Fault>
     ensures { Gives (λ r. r.now) result (reading.behind word.now bytes.now) }
 {
@@ -31,7 +31,7 @@ pub fn skip<'a>(word: &[u8], bytes: &'a [u8]) -> Result<&'a [u8], Fault>
     }
 }
 
-/// The digits in front, and what stands behind them.
+/// The digits in front, and what stands after them.
 #[tactic(auto, unfolding(crate::specs::Reading::digits_of, crate::specs::Reading::after_digits))]
 fn split_digits(bytes: &[u8]) -> (&[u8], &[u8])
     ensures digits { result.0.now ≡ reading.digits_of bytes.now }
@@ -95,7 +95,7 @@ pub fn number32(bytes: &[u8]) -> Result<(u32, &[u8]), Fault>
     }
 }
 
-/// A text behind its length.
+/// A text after its length.
 #[tactic(auto, unfolding(crate::specs::Reading::text_at))]
 pub fn text(bytes: &[u8]) -> Result<(&[u8], &[u8]), Fault>
     ensures { Gives (λ x. (x.0.now, x.1.now)) result (reading.text_at bytes.now) }

@@ -63,7 +63,7 @@ pub fn target(bytes: &[u8]) -> Result<(Target, &[u8]), Fault>
     Err(Fault::Bad)
 }
 
-/// A page, behind its word.
+/// A page, after its word.
 #[tactic(auto, unfolding(crate::specs::Grammar::page_at))]
 fn page(alloc: Global, bytes: &[u8]) -> Result<(Context, &[u8]), Fault>
     ensures { Gives (λ x. (x.0, x.1.now)) result (grammar.page_at bytes.now) }
@@ -77,7 +77,7 @@ fn page(alloc: Global, bytes: &[u8]) -> Result<(Context, &[u8]), Fault>
     Ok((Context::Page { ext, path }, rest))
 }
 
-/// A content script, behind its word.
+/// A content script, after its word.
 #[tactic(auto, unfolding(crate::specs::Grammar::content_at))]
 fn content(alloc: Global, bytes: &[u8]) -> Result<(Context, &[u8]), Fault>
     ensures { Gives (λ x. (x.0, x.1.now)) result (grammar.content_at bytes.now) }
@@ -103,7 +103,7 @@ fn content(alloc: Global, bytes: &[u8]) -> Result<(Context, &[u8]), Fault>
     ))
 }
 
-/// A web page, behind its word.
+/// A web page, after its word.
 #[tactic(auto, unfolding(crate::specs::Grammar::web_at))]
 fn web(alloc: Global, bytes: &[u8]) -> Result<(Context, &[u8]), Fault>
     ensures { Gives (λ x. (x.0, x.1.now)) result (grammar.web_at bytes.now) }

@@ -26,7 +26,7 @@ fn utf8_text(alloc: Global, bytes: &[u8]) -> Result<Utf8Text, Fault>
     }
 }
 
-/// A UTF-8 text behind its length.
+/// A UTF-8 text after its length.
 #[tactic(auto, unfolding(crate::specs::Reading::sized_at))]
 pub fn name(alloc: Global, bytes: &[u8]) -> Result<(Utf8Text, &[u8]), Fault>
     ensures { Gives (λ x. (x.0, x.1.now)) result (reading.sized_at is_utf8 bytes.now) }
@@ -46,7 +46,7 @@ fn json_text(alloc: Global, bytes: &[u8]) -> Result<JsonText, Fault>
     }
 }
 
-/// A JSON text behind its length.
+/// A JSON text after its length.
 #[tactic(auto, unfolding(crate::specs::Reading::sized_at))]
 pub fn json(alloc: Global, bytes: &[u8]) -> Result<(JsonText, &[u8]), Fault>
     ensures { Gives (λ x. (x.0, x.1.now)) result (reading.sized_at is_json_text bytes.now) }
@@ -70,7 +70,7 @@ fn path_text(alloc: Global, bytes: &[u8]) -> Result<PagePath, Fault>
     }
 }
 
-/// The path of a page behind its length.
+/// The path of a page after its length.
 #[tactic(auto, unfolding(crate::specs::Reading::sized_at))]
 pub fn path(alloc: Global, bytes: &[u8]) -> Result<(PagePath, &[u8]), Fault>
     ensures { Gives (λ x. (x.0, x.1.now)) result (reading.sized_at is_page_path bytes.now) }
@@ -115,7 +115,7 @@ fn url_text(alloc: Global, bytes: &[u8]) -> Result<WebUrl, Fault>
     }
 }
 
-/// A web URL's own text behind its length.
+/// A web URL's own text after its length.
 #[tactic(auto, unfolding(crate::specs::Reading::sized_at))]
 pub fn url(alloc: Global, bytes: &[u8]) -> Result<(WebUrl, &[u8]), Fault>
     ensures { Gives (λ x. (x.0, x.1.now)) result (reading.sized_at is_url bytes.now) }

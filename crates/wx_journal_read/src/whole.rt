@@ -30,7 +30,7 @@ fn entry(alloc: Global, bytes: &[u8]) -> Result<(Entry, &[u8]), Fault>
     Ok((Entry { who, call, answer }, rest))
 }
 
-/// The whole entries in front, and what stands behind them.
+/// The whole entries in front, and what stands after them.
 #[tactic(auto, using(crate::proofs::Runs::goes_on, crate::proofs::Runs::stops_here, crate::proofs::Runs::shrinks))]
 fn entries(alloc: Global, bytes: &[u8]) -> Result<(Vec<Entry>, &[u8]), Fault>
     ensures { Gives (λ x. (x.0.items, x.1.now)) result (Some (entries_at (length bytes.now) bytes.now)) }
@@ -80,7 +80,8 @@ pub fn read(alloc: Global, bytes: &[u8]) -> Result<Vec<Entry>, JournalReadFault>
     // what is read is spelled so
     ensures found { IfOk result (λ list. JournalFits list.items × (bytes.now ≡ journal_text list.items)) }
     // what is spelled so is read, unless memory ran out
-    ensures only { (journal : List Entry) → JournalFits journal → bytes.now ≡ journal_text journal → GivesWhole (λ list. list.items) result (Ok journal) }
+    ensures only { (journal : List Entry) → JournalFits journal → bytes.now ≡ journal_text journal
+        → GivesWhole (λ list. list.items) result (Ok journal) }
     // which fault it is
     ensures fault { IfBad result (IsFault bytes.now) }
 {

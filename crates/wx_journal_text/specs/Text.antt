@@ -27,7 +27,7 @@ infixr 6 ◌␣◌
 abbrev pub ◌␣◌ : List ℕ → List ℕ → List ℕ
 w ␣ more = w ++ (codes " " ++ more)
 
--- a text, behind its length in bytes
+-- a text, after its length in bytes
 abbrev pub sized : List ℕ → List ℕ
 sized t = decimal (length t) ++ (codes ":" ++ t)
 
@@ -145,7 +145,7 @@ answer_text Passed = codes "passed"
 answer_text Ignored = codes "ignored"
 answer_text Already = codes "already"
 
--- an entry's line: who, the call, and the answer behind an arrow
+-- an entry's line: who, the call, and the answer after an arrow
 abbrev pub entry_text : Entry → List ℕ
 entry_text e = who_text e.who ␣ call_text e.call ++ (codes " -> " ++ (answer_text e.answer ++ codes "\n"))
 

@@ -3,7 +3,5 @@
 
 pub mod laws;
 mod printing;
-#[cfg(test)]
-mod tests;
 
-pub use printing::print;
+pub use printing::{json_kind_text, print};

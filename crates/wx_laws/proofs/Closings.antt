@@ -3,10 +3,12 @@ use Rattle.std.proofs.Common.{◌≡◌, ℕ, ◌<◌, List, [], ◌∷◌, ◌+
 use Rattle.std.specs.Prelude.{Option, Some, None, ◌||◌, ◌&&◌, filter, ◌==◌, nat_lt}
 use Rattle.std.specs.Option.{option_or}
 use Rattle.std.specs.List.{list_any}
-use Rattle.std.proofs.lemmas.Bool.{eqb-true, and_parts, or_parts}
+use Rattle.std.proofs.lemmas.Bool.{eqb-true, and_parts, not-true, or_parts}
 use Rattle.std.proofs.lemmas.Bool.Decides.{nat_tests}
 use Rattle.std.proofs.lemmas.List.{append-nil}
 use Rattle.std.proofs.lemmas.List.Elements.{filter-append}
+use Rattle.wx_id.proofs.ContextLemmas.{same_context_is}
+use Rattle.wx_id.specs.Contexts.{is_among, same_context}
 use Rattle.wx_id.specs.declared.numbers.ContextNo.{ContextNo}
 use Rattle.wx_id.specs.declared.numbers.ChannelNo.{ChannelNo}
 use Rattle.wx_id.specs.declared.events.Event.{Event}
@@ -15,8 +17,8 @@ use Rattle.wx_id.specs.declared.events.End.{End}
 use Rattle.wx_id.specs.declared.events.End.TheVariants.{Opener, Receiver, Neither}
 use Rattle.wx_id.specs.declared.events.EventKind.TheVariants.{Connected, Message, Disconnected, Asked}
 use Rattle.wx_external.specs.World.{WorldLists}
-use Rattle.wx_machine.specs.Contexts.{same_context, is_by, is_leave, is_live, receivers_of}
-use Rattle.wx_machine.specs.Channels.{Ends, opened_by, opens, channels, channel, is_among, end_in}
+use Rattle.wx_machine.specs.Contexts.{is_by, is_leave, is_live, receivers_of}
+use Rattle.wx_machine.specs.Channels.{Ends, opened_by, opens, channels, channel, end_in}
 use Rattle.wx_machine.specs.Requests.{asks, requests, is_asked}
 use Rattle.wx_machine.specs.Hosts.{work_of}
 use Rattle.wx_machine.specs.Closing.{has_live, leaving, ends_by, ends_channel, is_closed, closes}
@@ -40,15 +42,11 @@ use Rattle.wx_laws.proofs.Numbers.{eqb_above, on_false, none_on, of_six}
 use Rattle.wx_laws.proofs.Places.{channel_later, channel_within, closed_later, closed_within, lives_on}
 use Rattle.wx_laws.proofs.Waiting.{leaves_waiting, waits_after}
 
--- two contexts of one number are one
-pub same_is : (c d : ContextNo) → same_context c d ≡ true → c ≡ d
-same_is c d h = let P : ℕ → ContextNo = λ n. record { 0 = n } in ap P (eqb-true c.0 d.0 h)
-
 -- an end's leave as the opener ends its channel
 leave_ends : (past : List Entry) (e : Entry) (k : ℕ) (o : Option Ends) (c : ContextNo) (who : Who) (call : Call)
     → end_in o c ≡ Opener → (is_leave call && is_by who c) ≡ true → ends_by past e k o who call ≡ true
 leave_ends past e k o c (ByContext d) Leave opener is =
-    subst (λ (x : ContextNo). leaving (end_in o x) (has_live (e ∷ past) o) ≡ true) (sym (same_is d c is)) (rw opener refl)
+    subst (λ (x : ContextNo). leaving (end_in o x) (has_live (e ∷ past) o) ≡ true) (sym (same_context_is d c is)) (rw opener refl)
 leave_ends past e k o c (ByHost h) Leave opener is = absurd (let q : false ≡ true = is in cc)
 leave_ends past e k o c _ _ opener is = absurd (let q : false ≡ true = is in cc)
 
@@ -61,7 +59,7 @@ live_tells j true a h = refl
 live_tells j false a h = absurd (cc)
 
 opener_is : (o c : ContextNo) (cs : List ContextNo) (b : Bool) → same_context o c ≡ b → cond b Opener (cond (is_among cs c) Receiver Neither) ≡ Opener → o ≡ c
-opener_is o c cs true is h = same_is o c is
+opener_is o c cs true is h = same_context_is o c is
 opener_is o c cs false is h = absurd (other (is_among cs c) h)
   where
     other : (b : Bool) → cond b Receiver Neither ≡ Opener → ⊥
@@ -121,10 +119,6 @@ across true Receiver Receiver live h = refl
 across true Receiver Neither live h = refl
 across true Neither y live h = refl
 
-closing_first : (b d : Bool) → (not b && d) ≡ true → b ≡ false
-closing_first true d h = absurd (cc)
-closing_first false d h = refl
-
 pub tells_the_other_side_lem : TellsTheOtherSide
 tells_the_other_side_lem world past e c k legal =
     let n = length (channels past) in
@@ -138,7 +132,7 @@ tells_the_other_side_lem world past e c k legal =
     (λ t. goes_within past k e.who c (channel past k) refl ((and_parts (closes past e k) (goes_to past (channel past k) e.who c) t).1))
     ∙ ap (λ b. on b (Disconnected (record { 0 = k })))
     (across (closes past e k) (side_of (channel past k) e.who) (end_in (channel past k) c) (is_live past c)
-    (λ closing opener. opener_lives world past c k legal.0 (closing_first (is_closed past k) (ends_channel past e k) closing) opener)))
+    (λ closing opener. opener_lives world past c k legal.0 (not-true (is_closed past k) (and_parts (not (is_closed past k)) (ends_channel past e k) closing).0) opener)))
     (none_on (is_disconnected k) (is_asked (asks past e) c) (Asked (record { 0 = length (requests past) })) refl)
     (no_replies (is_disconnected k) (λ j. refl) past c e.who e.call e.answer)
     (no_unanswered (is_disconnected k) (λ j. refl) past e e.call c)
@@ -272,7 +266,7 @@ stays_pending_lem past c k h =
     whole true = refl
     whole false = refl
 
--- the same, where the other filter comes behind the test
+-- the same, where the other filter comes after the test
 pub filter_swap : (p w v : Event → Bool) → ((x : Event) → p x ≡ true → w x ≡ v x) → (xs : List Event) → filter p (filter w xs) ≡ filter v (filter p xs)
 filter_swap p w v h [] = refl
 filter_swap p w v h (x ∷ xs) = parts (p x) refl (w x) refl (filter_swap p w v h xs)

@@ -7,7 +7,8 @@ use Rattle.std.proofs.lemmas.Bool.{eqb-true}
 use Rattle.std.proofs.lemmas.Bool.Decides.{nat_tests}
 use Rattle.std.proofs.lemmas.List.{append-nil, length-append}
 use Rattle.std.proofs.lemmas.List.Elements.{filter-append}
-use Rattle.std.proofs.lemmas.Option.{slice_get_within}
+use Rattle.std.proofs.lemmas.Option.{slice_get_past, slice_get_within}
+use Rattle.wx_id.specs.Numbers.{entry_no}
 use Rattle.wx_id.specs.declared.numbers.ContextNo.{ContextNo}
 use Rattle.wx_id.specs.declared.numbers.ChannelNo.{ChannelNo}
 use Rattle.wx_id.specs.declared.numbers.RequestNo.{RequestNo}
@@ -36,9 +37,10 @@ use Rattle.wx_machine.specs.declared.work.Work.TheVariants.{Channel as ForChanne
 use Rattle.wx_laws.specs.Legal.{IsLegalPast}
 use Rattle.wx_laws.specs.Prefix.{IsPrefix}
 use Rattle.wx_laws.specs.PrefixLaw.{posts_on, posts, asked_at, for_work, HostsTakeInOrder, HostsTakeTextsInOrder}
-use Rattle.wx_laws.proofs.Messages.{entry_no, prefix_map, Under, under_more, under_new, under-append, get_last}
+use Rattle.wx_laws.proofs.Messages.{prefix_map, Under, under_more, under_new, under-append, get_last}
 use Rattle.wx_laws.proofs.Numbers.{eqb_refl, eqb_below, eqb_above}
-use Rattle.wx_laws.proofs.Places.{get_options, channel_later}
+use Rattle.wx_machine.proofs.Lists.{get_options}
+use Rattle.wx_laws.proofs.Places.{channel_later}
 
 -- entries whose numbers rise
 abbrev Above : EntryNo → List EntryNo → Type 0
@@ -203,10 +205,6 @@ get_left [] ys k x h = absurd (cc)
 get_left (z ∷ xs) ys zero x h = h
 get_left (z ∷ xs) ys (suc k) x h = get_left xs ys k x h
 
-past_end : {X : Type 0} (xs : List X) → slice_get xs (length xs) ≡ None
-past_end [] = refl
-past_end (x ∷ xs) = past_end xs
-
 not_new : (xs : List Start) (h : ℕ) (start : Start) → slice_get xs h ≡ Some start → (length xs == h) ≡ false
 not_new xs h start is = let l : h < length xs = slice_get_within xs h start is in eqb_above (length xs) h l
 
@@ -231,7 +229,7 @@ new_host : (world : WorldLists) (past : List Entry) (h : HostNo) (e : Entry) (wh
     → who ≡ e.who → call ≡ e.call → answer ≡ e.answer → (b : Bool) → (length (hosts past) == h.0) ≡ b
     → AreTexts (e ∷ past) (work_in (cond b (started_by past who call answer) None)) (cond (is_text_for past who call answer h) (entry_no (length past) ∷ []) [])
 new_host world past h e (ByContext c) (ConnectNative name) (OnChannel j) legal none w l a true is =
-    rw (none_posted world past (length (channels past)) legal (past_end (channels past)), ← w, ← l) refl
+    rw (none_posted world past (length (channels past)) legal (slice_get_past (channels past) (length (channels past)) (omega arith)), ← w, ← l) refl
 new_host world past h e (ByContext c) (SendNative name text) (OnRequest r) legal none w l a true is =
     let made : is_some (asks past e) ≡ true = rw (← w, ← l, ← a) refl in
     let new : slice_get (asked_at (e ∷ past)) (length (requests past)) ≡ Some (entry_no (length past)) =

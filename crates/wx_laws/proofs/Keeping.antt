@@ -4,6 +4,7 @@ use Rattle.std.specs.Prelude.{Option, Some, None, is_some, ◌&&◌, filter, ◌
 use Rattle.std.specs.Option.{option_or}
 use Rattle.std.proofs.lemmas.Bool.Decides.{nat_tests}
 use Rattle.std.proofs.lemmas.List.{reverse-append, length-reverse, length-append}
+use Rattle.wx_laws.proofs.Numbers.{eqb_refl, eqb_below, eqb_above}
 use Rattle.wx_id.specs.declared.numbers.ContextNo.{ContextNo}
 use Rattle.wx_id.specs.declared.numbers.HostNo.{HostNo}
 use Rattle.wx_id.specs.declared.events.EventKind.TheVariants.{Disconnected}
@@ -55,28 +56,19 @@ closed_below (e ∷ past) k n h = pick (closed_at past k) (ends_channel past e k
     pick None false h rest = absurd (cc)
     pick (Some m) b h rest = let q : n < length past = rest h in omega arith
 
-apart_at : (m n : ℕ) → m < n → (m == n) ≡ false
-apart_at m n h = grind (arith, nat_tests)
-
-other_at : (m n : ℕ) → n < m → (m == n) ≡ false
-other_at m n h = grind (arith, nat_tests)
-
-itself_at : (n : ℕ) → (n == n) ≡ true
-itself_at n = grind (arith, nat_tests)
-
 -- an entry closes a channel where it is the closing entry of the whole journal
 closes_at : (later past : List Entry) (e : Entry) (k : ℕ) → closes past e k ≡ is_at (closed_at (later ++ e ∷ past) k) (length past)
 closes_at [] past e k = pick (closed_at past k) refl (ends_channel past e k)
   where
     pick : (o : Option ℕ) → closed_at past k ≡ o → (b : Bool) → (not (is_some o) && b) ≡ is_at (option_or o (cond b (Some (length past)) None)) (length past)
-    pick None is true = sym (itself_at (length past))
+    pick None is true = sym (eqb_refl (length past))
     pick None is false = refl
-    pick (Some m) is b = sym (apart_at m (length past) (closed_below past k m is))
+    pick (Some m) is b = sym (eqb_below m (length past) (closed_below past k m is))
 closes_at (x ∷ later) past e k =
     closes_at later past e k ∙ pick (closed_at (later ++ e ∷ past) k) (ends_channel (later ++ e ∷ past) x k)
   where
     pick : (o : Option ℕ) (b : Bool) → is_at o (length past) ≡ is_at (option_or o (cond b (Some (length (later ++ e ∷ past))) None)) (length past)
-    pick None true = sym (other_at (length (later ++ e ∷ past)) (length past) (omega (arith, length-append later (e ∷ past))))
+    pick None true = sym (eqb_above (length (later ++ e ∷ past)) (length past) (omega (arith, length-append later (e ∷ past))))
     pick None false = refl
     pick (Some m) b = refl
 
@@ -90,7 +82,7 @@ closed_then (x ∷ later) past k n h l = pick (closed_at (later ++ past) k) refl
     pick None is false h rest = absurd (cc)
     pick (Some m) is b h rest = rest (is ∙ h)
 
--- behind its closing entry a channel is closed
+-- after its closing entry a channel is closed
 closed_before : (journal : List Entry) (k i n : ℕ) (e : Entry) → closed_at (reverse journal) k ≡ Some n → n < i → Split journal i e → is_closed (before journal i) k ≡ true
 closed_before journal k i n e closed below s =
     let whole : (s.0 ++ e ∷ []) ++ before journal i ≡ reverse journal = (simp append_assoc) ∙ sym s.1 in

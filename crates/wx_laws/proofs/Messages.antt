@@ -5,6 +5,9 @@ use Rattle.std.specs.Option.{option_or}
 use Rattle.std.proofs.lemmas.Bool.{eqb-true, and_parts, or_parts}
 use Rattle.std.proofs.lemmas.List.{append-nil, reverse-append, length-reverse, map-append}
 use Rattle.std.proofs.lemmas.List.Elements.{filter-append}
+use Rattle.wx_id.proofs.ContextLemmas.{same_context_is}
+use Rattle.wx_id.specs.Numbers.{entry_no}
+use Rattle.wx_id.specs.Contexts.{is_among, same_context}
 use Rattle.wx_id.specs.declared.numbers.ContextNo.{ContextNo}
 use Rattle.wx_id.specs.declared.numbers.HostNo.{HostNo}
 use Rattle.wx_id.specs.declared.numbers.EntryNo.{EntryNo}
@@ -18,8 +21,8 @@ use Rattle.wx_context.specs.declared.contexts.Target.{Target}
 use Rattle.wx_external.specs.World.{WorldLists}
 use Rattle.wx_machine.specs.Each.{first}
 use Rattle.wx_machine.specs.Carried.{text_in, text_carried, text_of}
-use Rattle.wx_machine.specs.Contexts.{same_context, is_by, enters, if_numbered, context_of, is_there, has_left, is_live, listens_of, numbers, reaches_from, is_receiver, receivers_of}
-use Rattle.wx_machine.specs.Channels.{Ends, opened_by, opens, channels, channel, is_among, end_in}
+use Rattle.wx_machine.specs.Contexts.{is_by, enters, if_numbered, context_of, is_there, has_left, is_live, listens_of, numbers, reaches_from, is_receiver, receivers_of}
+use Rattle.wx_machine.specs.Channels.{Ends, opened_by, opens, channels, channel, end_in}
 use Rattle.wx_machine.specs.Requests.{asks, requests, is_asked}
 use Rattle.wx_machine.specs.Hosts.{work_of, is_for_channel}
 use Rattle.wx_machine.specs.Closing.{is_one, ends_by, is_closed}
@@ -39,16 +42,12 @@ use Rattle.wx_laws.specs.ClosingLaw.{are_across, disconnects}
 use Rattle.wx_laws.specs.Legal.{IsLegalPast}
 use Rattle.wx_laws.specs.Prefix.{IsPrefix}
 use Rattle.wx_laws.specs.PrefixLaw.{is_message, messages, is_opening, gives, given, TakesInOrder, texts, given_texts, TakesTextsInOrder}
-use Rattle.wx_laws.proofs.Closings.{same_is, tells_no_more_lem, drops_not, filter_under, of_marked, done_open}
+use Rattle.wx_laws.proofs.Closings.{tells_no_more_lem, drops_not, filter_under, of_marked, done_open}
 use Rattle.wx_laws.proofs.Endings.{no_replies, no_disconnected, no_unanswered}
 use Rattle.wx_laws.proofs.Numbers.{eqb_refl, at_number, none_on, of_six}
 use Rattle.wx_laws.proofs.Places.{channel_later, host_within, closed_later}
 use Rattle.wx_laws.proofs.Taking.{takes, leaves_others}
 use Rattle.wx_laws.proofs.Waiting.{leaves_waiting, told_first, waits_after}
-
--- the number of an entry
-abbrev pub entry_no : ℕ → EntryNo
-entry_no n = record { 0 = n }
 
 abbrev pub of_messages : ℕ → List Event → List Event
 of_messages k events = filter (λ event. is_message k event.kind) events
@@ -91,7 +90,7 @@ takes_or Take (Told event) false = inr refl
 takes_or _ _ _ = inr refl
 
 by_is : (who : Who) (c : ContextNo) → is_by who c ≡ true → who ≡ ByContext c
-by_is (ByContext d) c h = ap (λ (x : ContextNo). ByContext x) (same_is d c h)
+by_is (ByContext d) c h = ap (λ (x : ContextNo). ByContext x) (same_context_is d c h)
 by_is (ByHost g) c h = absurd (let q : false ≡ true = h in cc)
 
 first_is : (xs : List Event) (event : Event) → first xs ≡ Some event → (others : List Event) × (xs ≡ event ∷ others)
@@ -362,7 +361,7 @@ among_lives past o target c (x ∷ xs) h = parts (is_receiver past o target Conn
     here : (b : Bool) → same_context x c ≡ b → is_receiver past o target Connection x ≡ true → (b || is_among (filter (is_receiver past o target Connection) xs) c) ≡ true
         → (is_among (filter (is_receiver past o target Connection) xs) c ≡ true → is_live past c ≡ true) → is_live past c ≡ true
     here true is w h rest =
-        subst (λ (y : ContextNo). is_live past y ≡ true) (same_is x c is)
+        subst (λ (y : ContextNo). is_live past y ≡ true) (same_context_is x c is)
         (live_of (same_context x o) (is_live past x) (reaches_from (context_of past o) target Connection (context_of past x) (listens_of past x)) w)
     here false is w h rest = rest h
 

@@ -6,6 +6,7 @@ use Rattle.std.proofs.lemmas.Bool.{eqb-true}
 use Rattle.std.proofs.lemmas.Bool.Decides.{nat_tests}
 use Rattle.std.proofs.lemmas.Option.{slice_get_within}
 use Rattle.std.proofs.lemmas.List.{length-append}
+use Rattle.wx_machine.proofs.Lists.{get_options}
 use Rattle.wx_id.specs.declared.numbers.ContextNo.{ContextNo}
 use Rattle.wx_id.specs.declared.numbers.HostNo.{HostNo}
 use Rattle.wx_id.specs.declared.events.End.{End}
@@ -22,24 +23,6 @@ use Rattle.wx_machine.specs.declared.entries.Entry.{Entry}
 use Rattle.wx_machine.specs.declared.entries.Who.TheVariants.{Context as ByContext, Host as ByHost}
 use Rattle.wx_machine.specs.declared.entries.Call.TheVariants.{Leave, Disconnect, ConnectNative, SendNative, HostEnded}
 use Rattle.wx_machine.specs.declared.entries.Answer.TheVariants.{Channel as OnChannel, Request as OnRequest}
-
-same_none : {X : Type 0} (b : Bool) → cond {A = Option X} b None None ≡ None
-same_none true = refl
-same_none false = refl
-
-zero_suc : (k : ℕ) → (0 == suc k) ≡ false
-zero_suc k = grind (arith, nat_tests)
-
-suc_suc : (m k : ℕ) → (suc m == suc k) ≡ (m == k)
-suc_suc m k = grind (arith, nat_tests)
-
-pub get_options : {X : Type 0} (xs : List X) (o : Option X) (k : ℕ) → slice_get (xs ++ option_to_list o) k ≡ option_or (slice_get xs k) (cond (length xs == k) o None)
-get_options [] None zero = refl
-get_options [] None (suc k) = sym (same_none (0 == suc k))
-get_options [] (Some x) zero = refl
-get_options [] (Some x) (suc k) = rw (zero_suc k) refl
-get_options (y ∷ xs) o zero = refl
-get_options (y ∷ xs) o (suc k) = rw (suc_suc (length xs) k) (get_options xs o k)
 
 -- the channel of that number, one entry later
 pub channel_later : (past : List Entry) (e : Entry) (k : ℕ) → channel (e ∷ past) k ≡ option_or (channel past k) (cond (length (channels past) == k) (opens past e) None)

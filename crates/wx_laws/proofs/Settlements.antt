@@ -7,13 +7,14 @@ use Rattle.std.proofs.lemmas.Bool.Decides.{nat_tests}
 use Rattle.std.proofs.lemmas.List.{append-nil, map-append}
 use Rattle.std.proofs.lemmas.List.Elements.{filter-append}
 use Rattle.std.proofs.lemmas.Option.{slice_get_within}
+use Rattle.wx_id.specs.Contexts.{is_among, same_context}
 use Rattle.wx_id.specs.declared.numbers.ContextNo.{ContextNo}
 use Rattle.wx_id.specs.declared.events.EventKind.{EventKind}
 use Rattle.wx_id.specs.declared.events.EventKind.TheVariants.{Connected, Asked, Replied, Closed}
 use Rattle.wx_context.specs.declared.contexts.Target.{Target}
 use Rattle.wx_external.specs.World.{WorldLists}
-use Rattle.wx_machine.specs.Contexts.{same_context, is_by, context_of, is_live, listens_of, numbers, reaches_from, is_receiver, receivers_of}
-use Rattle.wx_machine.specs.Channels.{opens, channels, is_among, end_in}
+use Rattle.wx_machine.specs.Contexts.{is_by, context_of, is_live, listens_of, numbers, reaches_from, is_receiver, receivers_of}
+use Rattle.wx_machine.specs.Channels.{opens, channels, end_in}
 use Rattle.wx_machine.specs.Requests.{Parties, asked_by, asks, requests, request, is_asker, is_asked}
 use Rattle.wx_machine.specs.Hosts.{work_of, is_for_request}
 use Rattle.wx_machine.specs.Settling.{has_declined, has_open, settles_by, ends_request, settled_at, is_settled}

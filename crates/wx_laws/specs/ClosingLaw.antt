@@ -70,7 +70,7 @@ StaysPending =
     (past : List Entry) (c : ContextNo) (k : ℕ) → has_disconnected past c k ≡ false
     → of_channel k (pending past c) ≡ of_channel k (untaken past c)
 
--- behind the closing of a channel what is pending of it for a context stays so, but for what that context takes
+-- after the closing of a channel what is pending of it for a context stays so, but for what that context takes
 abbrev pub StaysBehindClosing : Type 0
 StaysBehindClosing =
     (world : WorldLists) (past : List Entry) (e : Entry) (c : ContextNo) (k : ℕ) → IsLegalPast world (e ∷ past) → is_closed past k ≡ true

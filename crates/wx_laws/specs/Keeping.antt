@@ -54,11 +54,11 @@ pub record KeepsChannel (journal : List Entry) (k : ℕ) (closed : Option ℕ) :
   pub to_the_other_side : (i : ℕ) (e : Entry) (c : ContextNo) → IsEntry journal i e
       → filter (is_disconnected k) (told journal i e c)
       ≡ on (is_at closed i && (are_across (side_of (channel (before journal i) k) e.who) (end_in (channel (before journal i) k) c) && is_live (before journal i) c)) (Disconnected (record { 0 = k }))
-  -- behind its closing entry nothing is told of it
+  -- after its closing entry nothing is told of it
   pub no_more : (i n : ℕ) (e : Entry) (c : ContextNo) → IsEntry journal i e → closed ≡ Some n → n < i → filter (is_of k) (told journal i e c) ≡ []
   -- what was delivered on it and not taken is pending for each context that did not itself disconnect it
   pub stays : (c : ContextNo) → has_disconnected (reverse journal) c k ≡ false → of_channel k (pending (reverse journal) c) ≡ of_channel k (untaken (reverse journal) c)
-  -- behind its closing entry only what a context takes leaves what is pending of it for that context
+  -- after its closing entry only what a context takes leaves what is pending of it for that context
   pub stays_behind : (i n : ℕ) (e : Entry) (c : ContextNo) → IsEntry journal i e → closed ≡ Some n → n < i
       → of_channel k (pending (e ∷ before journal i) c) ≡ filter (is_not_in (event_in e.call e.answer (is_by e.who c))) (of_channel k (pending (before journal i) c))
 

@@ -56,7 +56,7 @@ TellsOneOutcome =
     (world : WorldLists) (past : List Entry) (c : ContextNo) (r : ℕ) → IsLegalPast world past
     → IsPrefix (map (λ event. event.entry.0) (outcomes past c r)) (option_to_list (settled_at past r))
 
--- entry e leaves request r, which has these parties, without a reply: a decline or leave of a receiver behind which every receiver has declined or left, or the end of its host
+-- entry e leaves request r, which has these parties, without a reply: a decline or leave of a receiver after which every receiver has declined or left, or the end of its host
 abbrev pub closes_by : List Entry → Entry → ℕ → Option Parties → Who → Call → Bool
 closes_by past e r parties (ByContext c) (Decline j) = (j.0 == r) && is_asked parties c && is_live past c && not (has_open (e ∷ past) r parties)
 closes_by past e r parties (ByContext c) Leave = is_asked parties c && not (has_open (e ∷ past) r parties)

@@ -1,6 +1,6 @@
 -- The channels of a journal and their ends.
 use Rattle.std.specs.Prelude.{ℕ, List, [], ◌∷◌, ◌++◌, Bool, cond, Option, Some, None, slice_get, option_to_list}
-use Rattle.std.specs.List.{list_any}
+use Rattle.wx_id.specs.Contexts.{same_context, is_among}
 use Rattle.wx_id.specs.declared.numbers.ContextNo.{ContextNo}
 use Rattle.wx_id.specs.declared.events.End.{End}
 use Rattle.wx_id.specs.declared.events.End.TheVariants.{Opener, Receiver, Neither}
@@ -12,7 +12,7 @@ use Rattle.wx_machine.specs.declared.entries.Answer.{Answer}
 use Rattle.wx_machine.specs.declared.entries.Answer.TheVariants.{Channel as OnChannel}
 use Rattle.wx_machine.specs.declared.entries.Entry.{Entry}
 use Rattle.wx_machine.specs.declared.sorts.Sort.TheVariants.{Connection}
-use Rattle.wx_machine.specs.Contexts.{same_context, receivers_of}
+use Rattle.wx_machine.specs.Contexts.{receivers_of}
 
 -- the ends of a channel; a native one has a host in place of receivers
 pub record Ends : Type 0 where
@@ -37,9 +37,6 @@ channels (e ∷ past) = channels past ++ option_to_list (opens past e)
 -- channel k
 abbrev pub channel : List Entry → ℕ → Option Ends
 channel past k = slice_get (channels past) k
-
-abbrev pub is_among : List ContextNo → ContextNo → Bool
-is_among cs c = list_any (λ d. same_context d c) cs
 
 -- what context c is to a channel
 abbrev pub end_in : Option Ends → ContextNo → End

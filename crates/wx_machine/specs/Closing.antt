@@ -38,7 +38,7 @@ ends_by past e k ends _ _ = false
 abbrev pub ends_channel : List Entry → Entry → ℕ → Bool
 ends_channel past e k = ends_by past e k (channel past k) e.who e.call
 
--- the number of the entry that closed channel k: the first behind its opening that ends it
+-- the number of the entry that closed channel k: the first after its opening that ends it
 abbrev pub closed_at : List Entry → ℕ → Option ℕ
 closed_at [] k = None
 closed_at (e ∷ past) k = option_or (closed_at past k) (cond (ends_channel past e k) (Some (length past)) None)

@@ -2,6 +2,7 @@
 -- A journal is asked newest entry first: `past` has the newest entry at its head, so that the tail of `e ∷ past` is what stood before e.
 use Rattle.std.specs.Prelude.{ℕ, ◌+◌, List, [], ◌∷◌, ◌++◌, Bool, true, false, not, ◌&&◌, ◌||◌, cond, Option, Some, None, filter, bytes_eq, ◌==◌}
 use Rattle.std.specs.Option.{option_or}
+pub use Rattle.wx_id.specs.Contexts.{same_context}
 use Rattle.wx_id.specs.declared.numbers.ContextNo.{ContextNo}
 use Rattle.wx_id.specs.declared.numbers.TabId.{TabId}
 use Rattle.wx_id.specs.declared.numbers.FrameId.{FrameId}
@@ -20,10 +21,6 @@ use Rattle.wx_machine.specs.declared.entries.Answer.{Answer}
 use Rattle.wx_machine.specs.declared.entries.Answer.TheVariants.{Entered}
 use Rattle.wx_machine.specs.declared.entries.Entry.{Entry}
 use Rattle.wx_external.specs.Gate.{meant}
-
--- two numbers of contexts are one
-abbrev pub same_context : ContextNo → ContextNo → Bool
-same_context c d = c.0 == d.0
 
 -- context c makes the call
 abbrev pub is_by : Who → ContextNo → Bool

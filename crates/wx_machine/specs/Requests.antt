@@ -1,5 +1,6 @@
 -- The requests of a journal, and whom each was sent to.
 use Rattle.std.specs.Prelude.{ℕ, List, [], ◌∷◌, ◌++◌, Bool, false, Option, Some, None, slice_get, option_to_list}
+use Rattle.wx_id.specs.Contexts.{same_context, is_among}
 use Rattle.wx_id.specs.declared.numbers.ContextNo.{ContextNo}
 use Rattle.wx_machine.specs.declared.sorts.Sort.TheVariants.{Message}
 use Rattle.wx_machine.specs.declared.entries.Who.{Who}
@@ -9,8 +10,7 @@ use Rattle.wx_machine.specs.declared.entries.Call.TheVariants.{Send, SendNative}
 use Rattle.wx_machine.specs.declared.entries.Answer.{Answer}
 use Rattle.wx_machine.specs.declared.entries.Answer.TheVariants.{Request as OnRequest}
 use Rattle.wx_machine.specs.declared.entries.Entry.{Entry}
-use Rattle.wx_machine.specs.Contexts.{same_context, receivers_of}
-use Rattle.wx_machine.specs.Channels.{is_among}
+use Rattle.wx_machine.specs.Contexts.{receivers_of}
 
 -- the parties of a request: who asked, and whom; a native one has a host in place of receivers
 pub record Parties : Type 0 where

@@ -31,7 +31,7 @@ abbrev pub has_open : List Entry → ℕ → Option Parties → Bool
 has_open past r None = false
 has_open past r (Some parties) = list_any (is_open_to past r) parties.receivers
 
--- entry e settles request r, which has these parties: a reply of a receiver that may still reply, the decline or leave behind which none may, the asker's leave, or what its host says or that it ends
+-- entry e settles request r, which has these parties: a reply of a receiver that may still reply, the decline or leave after which none may, the asker's leave, or what its host says or that it ends
 abbrev pub settles_by : List Entry → Entry → ℕ → Option Parties → Who → Call → Bool
 settles_by past e r parties (ByContext c) (Reply j text) = (j.0 == r) && is_asked parties c && is_open_to past r c && not (nat_lt LONGEST (length text))
 settles_by past e r parties (ByContext c) (Decline j) = (j.0 == r) && is_asked parties c && is_live past c && not (has_open (e ∷ past) r parties)
@@ -43,7 +43,7 @@ settles_by past e r parties _ _ = false
 abbrev pub ends_request : List Entry → Entry → ℕ → Bool
 ends_request past e r = settles_by past e r (request past r) e.who e.call
 
--- the number of the entry that settled request r: the first behind its opening that ends it
+-- the number of the entry that settled request r: the first after its opening that ends it
 abbrev pub settled_at : List Entry → ℕ → Option ℕ
 settled_at [] r = None
 settled_at (e ∷ past) r = option_or (settled_at past r) (cond (ends_request past e r) (Some (length past)) None)

@@ -1,3 +1,4 @@
+//! Calls, their answers, and entries, which hold both.
 use wx_context::{Context, Listens, Target};
 use wx_external::Rule;
 use wx_id::{ChannelNo, ContextNo, EntryNo, Event, HostNo, RequestNo, Utf8Text};
@@ -31,9 +32,9 @@ pub enum Reason {
     TooLong { len: u32 },
     /// It wrote a frame whose text is no JSON text, by the fault at this place of the text.
     BadJson { place: u64, kind: JsonKind },
-    /// It stopped writing within a frame, `have` bytes behind the frame's beginning.
+    /// It stopped writing within a frame, `have` bytes after the frame's beginning.
     Cut { have: u64 },
-    /// It stopped writing behind a whole frame.
+    /// It stopped writing after a whole frame.
     Exited,
     /// Its channel was closed when it last said something.
     Closed,

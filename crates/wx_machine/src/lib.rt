@@ -4,8 +4,6 @@
 mod entries;
 pub mod laws;
 mod sorts;
-#[cfg(test)]
-mod tests;
 mod work;
 
 pub use entries::{Answer, Call, Entry, LONGEST, LONGEST_SAID, Reason, Who};

@@ -1,3 +1,4 @@
+//! What is sent to a target: a connection or a message.
 /// What is sent to a target.
 #[derive(Clone, Copy, Debug, PartialEq, Eq)]
 pub enum Sort {

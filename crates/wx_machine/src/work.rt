@@ -1,3 +1,4 @@
+//! What a native host works for.
 use wx_id::{ChannelNo, RequestNo};
 
 /// What a native host works for.

@@ -1,6 +1,6 @@
 -- What a contract sees of the one-shot requests (WebExtensions "runtime.sendMessage").
-use Rattle.std.specs.Prelude.{List, [], ◌∷◌, Bool, true, false, not, ◌&&◌, ◌||◌, ◌==◌, cond, Option, Some, None, filter, length}
-use Rattle.std.specs.List.{list_any}
+use Rattle.std.specs.Prelude.{List, [], Bool, true, false, not, ◌&&◌, ◌||◌, ◌==◌, cond, Option, Some, None, filter, length}
+use Rattle.wx_id.specs.Contexts.{same_context, is_among, is_other}
 use Rattle.wx_id.specs.declared.numbers.ContextNo.{ContextNo}
 use Rattle.wx_one_shot.specs.declared.requests.Standing.{Standing}
 use Rattle.wx_one_shot.specs.declared.requests.Standing.TheVariants.{Open, Late, Stranger}
@@ -12,15 +12,6 @@ pub record Request : Type 0 where
   pub still_open : List ContextNo
   pub is_settled : Bool
 
--- context c is one of them
-abbrev pub is_among : List ContextNo → ContextNo → Bool
-is_among contexts c = list_any (λ d. d.0 == c.0) contexts
-
--- no context stands twice
-abbrev pub are_distinct : List ContextNo → Bool
-are_distinct [] = true
-are_distinct (c ∷ cs) = not (is_among cs c) && are_distinct cs
-
 -- a request as it is made: each receiver may reply
 abbrev pub asked : ContextNo → List ContextNo → Request
 asked asker receivers = record { asker = asker; receivers = receivers; still_open = receivers; is_settled = false }
@@ -28,10 +19,6 @@ asked asker receivers = record { asker = asker; receivers = receivers; still_ope
 -- a request once it is settled: nobody may reply any more
 abbrev pub settled : Request → Request
 settled request = record { asker = request.asker; receivers = request.receivers; still_open = []; is_settled = true }
-
--- another context than c
-abbrev pub is_other : ContextNo → ContextNo → Bool
-is_other c d = not (d.0 == c.0)
 
 -- an unsettled request where just these may still reply: it is settled where there are none
 abbrev pub left_to : List ContextNo → Request → Request
@@ -44,7 +31,7 @@ without c request = left_to (filter (is_other c) request.still_open) request
 -- the request once context c has left: an unsettled one that c asked is settled, and one that was sent to c is left to the others
 abbrev pub left_by : ContextNo → Request → Request
 left_by c request =
-    cond request.is_settled request (cond (request.asker.0 == c.0) (settled request) (cond (is_among request.receivers c) (without c request) request))
+    cond request.is_settled request (cond (same_context request.asker c) (settled request) (cond (is_among request.receivers c) (without c request) request))
 
 -- the request with a number has been given out and is settled
 abbrev pub is_settled_at : Option Request → Bool
@@ -68,4 +55,4 @@ standing_at (Some request) c = cond (is_among request.receivers c) (cond (may_re
 -- the request with a number is not settled, and context c asked it or may still reply to it
 abbrev pub concerns_at : Option Request → ContextNo → Bool
 concerns_at None c = false
-concerns_at (Some request) c = not request.is_settled && ((request.asker.0 == c.0) || is_among request.still_open c)
+concerns_at (Some request) c = not request.is_settled && ((same_context request.asker c) || is_among request.still_open c)

@@ -5,6 +5,3 @@
 mod requests;
 
 pub use requests::{Requests, Standing};
-
-#[cfg(test)]
-mod tests;

@@ -1,13 +1,14 @@
 //! The requests, each at the place of its number.
-ghost use Rattle.std.specs.Prelude.{◌≡◌, ◌≤◌, ◌<◌, ℕ, [], ◌∷◌, ◌++◌, length, map, false, IsTrue, IfSome, IfOk, IfErr, OnOk, OnErr, Some, slice_get, slice_set, filter};
+ghost use Rattle.std.specs.Prelude.{◌≡◌, ◌≤◌, ◌<◌, ℕ, [], ◌∷◌, ◌++◌, length, map, false, IsTrue, IfSome, IfOk, IfErr, OnOk, OnErr, Some, slice_get, slice_set};
 ghost use Rattle.std.specs.Option.{IfNone};
-ghost use Rattle.wx_one_shot.specs.Requests.{is_among, is_other, are_distinct, asked, settled, without, left_by, is_settled_at, is_unsettled_at, standing_at, concerns_at};
+ghost use Rattle.wx_id.specs.Contexts.{is_among, are_distinct};
+ghost use Rattle.wx_one_shot.specs.Requests.{asked, settled, without, left_by, is_settled_at, is_unsettled_at, standing_at, concerns_at};
 ghost use Rattle.wx_one_shot.specs.Rows.{request_in, requests_in};
 ghost use Rattle.wx_one_shot.specs.declared.requests.Standing.TheVariants.{Open};
 
 use std::alloc::Global;
 use std::marker::Model;
-use wx_id::{ContextNo, RequestNo};
+use wx_id::{ContextNo, RequestNo, is_among, take_out};
 
 /// What a context is to a request.
 #[derive(Clone, Copy, Debug, PartialEq, Eq)]
@@ -27,13 +28,6 @@ struct Row {
     receivers: Vec<ContextNo>,
     still_open: Vec<ContextNo>,
     is_settled: bool,
-}
-
-// Whether c is one of them.
-fn is_among(contexts: &[ContextNo], c: ContextNo) -> bool
-    ensures { result ≡ is_among contexts.now c }
-{
-    contexts.iter().any(|d| d.0 == c.0)
 }
 
 // What c is to the request.
@@ -62,13 +56,6 @@ fn settle_row(row: &mut Row)
 {
     row.still_open.clear();
     row.is_settled = true;
-}
-
-// Takes c out.
-fn take_out(contexts: &mut Vec<ContextNo>, c: ContextNo)
-    ensures { contexts.new.items ≡ filter (is_other c) contexts.old.items }
-{
-    contexts.retain(|d| d.0 != c.0);
 }
 
 // Receiver c of the unsettled request will not reply. Answers whether that settled it.
@@ -200,7 +187,8 @@ impl Requests {
     // Receiver c, which is open, will not reply to request r. Answers whether that settled it.
     fn close_at(&mut self, r: RequestNo, c: ContextNo) -> bool
         requires { standing_at (slice_get self.old r.0) c ≡ Open }
-        ensures requests { IfSome (slice_get self.old r.0) (λ request. self.new ≡ slice_set self.old r.0 (without c request)) }
+        ensures requests { IfSome (slice_get self.old r.0)
+            (λ request. self.new ≡ slice_set self.old r.0 (without c request)) }
         ensures settled { result ≡ is_settled_at (slice_get self.new r.0) }
     {
         close_to(&mut self.rows[r.0 as usize], c)
@@ -210,7 +198,8 @@ impl Requests {
     /// Takes no memory.
     pub fn decline(&mut self, r: RequestNo, c: ContextNo) -> bool
         requires { standing_at (slice_get self.old r.0) c ≡ Open }
-        ensures requests { IfSome (slice_get self.old r.0) (λ request. self.new ≡ slice_set self.old r.0 (without c request)) }
+        ensures requests { IfSome (slice_get self.old r.0)
+            (λ request. self.new ≡ slice_set self.old r.0 (without c request)) }
         ensures settled { result ≡ is_settled_at (slice_get self.new r.0) }
     {
         self.close_at(r, c)
@@ -220,7 +209,8 @@ impl Requests {
     /// receiver is open. Takes no memory.
     pub fn drop_receiver(&mut self, r: RequestNo, c: ContextNo) -> bool
         requires { standing_at (slice_get self.old r.0) c ≡ Open }
-        ensures requests { IfSome (slice_get self.old r.0) (λ request. self.new ≡ slice_set self.old r.0 (without c request)) }
+        ensures requests { IfSome (slice_get self.old r.0)
+            (λ request. self.new ≡ slice_set self.old r.0 (without c request)) }
         ensures settled { result ≡ is_settled_at (slice_get self.new r.0) }
     {
         self.close_at(r, c)
@@ -246,7 +236,8 @@ impl Requests {
     #[tactic(auto, using(crate::proofs::RowsLater::request_at, crate::proofs::RowsLater::none_further))]
     pub fn next_of(&self, c: ContextNo, from: RequestNo) -> Option<RequestNo>
         ensures found { IfSome result (λ r. (from.0 ≤ r.0) × IsTrue (concerns_at (slice_get self.now r.0) c)) }
-        ensures least { IfSome result (λ r. (k : ℕ) → k < r.0 → from.0 ≤ k → concerns_at (slice_get self.now k) c ≡ false) }
+        ensures least { IfSome result (λ r. (k : ℕ) → k < r.0 → from.0 ≤ k
+            → concerns_at (slice_get self.now k) c ≡ false) }
         ensures none { IfNone result ((k : ℕ) → from.0 ≤ k → concerns_at (slice_get self.now k) c ≡ false) }
     {
         for k in from.0 as usize..self.rows.len() {

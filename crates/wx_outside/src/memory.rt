@@ -1,3 +1,4 @@
+//! A shelf and a sink in memory.
 ghost use Rattle.std.specs.Prelude.{◌≡◌, Some};
 ghost use Rattle.std.specs.Option.{option_map};
 ghost use Rattle.wx_outside.specs.Memory.{bytes_at, files_of};
@@ -36,9 +37,7 @@ pub struct MemoryShelf {
 }
 
 impl Shelf for MemoryShelf {
-    ghost files = { λ s. Some (files_of s.files.items) };
-
-    ghost faults = { λ s. s.faults };
+    ghost state = { λ s. record { files = Some (files_of s.files.items); reads = s.reads; faults = s.faults } };
 
     fn faults(&self) -> u64 {
         self.faults
@@ -77,9 +76,7 @@ pub struct MemorySink {
 }
 
 impl Sink for MemorySink {
-    ghost written = { λ s. Some s.bytes.items };
-
-    ghost faults = { λ s. s.faults };
+    ghost state = { λ s. record { written = Some s.bytes.items; faults = s.faults } };
 
     fn faults(&self) -> u64 {
         self.faults

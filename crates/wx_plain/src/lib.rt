@@ -1,14 +1,13 @@
 //! The commands that make no run: what they are asked, what they answer, and how that is told.
 #![tactic(auto)]
 
+mod about;
 mod frames;
 mod laws;
 mod matching;
 mod put;
 mod report;
 mod tell;
-#[cfg(test)]
-mod tests;
 mod top;
 mod verdict;
 

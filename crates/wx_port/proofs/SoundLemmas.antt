@@ -4,7 +4,8 @@ use Rattle.std.specs.Prelude.{◌==◌}
 use Rattle.std.proofs.lemmas.Bool.{and_parts, not-true, false≢true, false_from_ne_true}
 use Rattle.std.proofs.lemmas.Bool.Decides.{nat_tests}
 use Rattle.wx_id.specs.declared.numbers.ContextNo.{ContextNo}
-use Rattle.wx_port.specs.Port.{same_context, is_among, is_other, are_apart, Port, IsSound}
+use Rattle.wx_id.specs.Contexts.{same_context, is_among, is_other, are_distinct}
+use Rattle.wx_port.specs.Port.{Port, IsSound}
 
 -- one of those that are left was one before
 pub among_others : (c d : ContextNo) (xs : List ContextNo) → is_among (filter (is_other c) xs) d ≡ true → is_among xs d ≡ true
@@ -17,13 +18,13 @@ among_others c d (x ∷ xs) h = by (among_others c d xs) (is_other c x) refl (sa
     by rest true e false t = rw t (rest (rw (e, t) at h))
 
 -- those that are left stand once each
-pub others_apart : (c : ContextNo) (xs : List ContextNo) → are_apart xs ≡ true → are_apart (filter (is_other c) xs) ≡ true
-others_apart c [] h = h
-others_apart c (x ∷ xs) h =
-    let parts : (not (is_among xs x) ≡ true) × (are_apart xs ≡ true) = and_parts _ _ h in
-    by (false_from_ne_true _ (λ is. false≢true (sym (not-true _ parts.0) ∙ among_others c x xs is))) (others_apart c xs parts.1) (is_other c x) refl
+pub others_distinct : (c : ContextNo) (xs : List ContextNo) → are_distinct xs ≡ true → are_distinct (filter (is_other c) xs) ≡ true
+others_distinct c [] h = h
+others_distinct c (x ∷ xs) h =
+    let parts : (not (is_among xs x) ≡ true) × (are_distinct xs ≡ true) = and_parts _ _ h in
+    by (false_from_ne_true _ (λ is. false≢true (sym (not-true _ parts.0) ∙ among_others c x xs is))) (others_distinct c xs parts.1) (is_other c x) refl
   where
-    by : is_among (filter (is_other c) xs) x ≡ false → are_apart (filter (is_other c) xs) ≡ true → (b : Bool) → is_other c x ≡ b → are_apart (filter (is_other c) (x ∷ xs)) ≡ true
+    by : is_among (filter (is_other c) xs) x ≡ false → are_distinct (filter (is_other c) xs) ≡ true → (b : Bool) → is_other c x ≡ b → are_distinct (filter (is_other c) (x ∷ xs)) ≡ true
     by absent rest false e = rw e rest
     by absent rest true e = rw (e, absent) rest
 
@@ -35,7 +36,7 @@ pub sound_without : (old new : Port) (c : ContextNo) (is_empty : Bool) → IsSou
 sound_without old new c is_empty sound same_opener same_receivers fewer empty made = record {
   opener = rw (same_opener, same_receivers) sound.opener;
   receivers = rw same_receivers sound.receivers;
-  live = rw fewer (others_apart c old.live sound.live);
+  live = rw fewer (others_distinct c old.live sound.live);
   within = λ d h. rw same_receivers (sound.within d (among_others c d old.live (rw fewer at h)));
   closed = λ gone. none_left new.live is_empty empty (sym made ∙ gone);
 }

@@ -1,26 +1,9 @@
 -- Channels as a list by number, as contracts see them.
-use Rattle.std.specs.Prelude.{◌≡◌, List, [], ◌∷◌, Bool, true, false, not, ◌&&◌, ◌||◌, ◌==◌, IsTrue, Option, Some, None, filter, if◌then◌else◌}
-use Rattle.std.specs.List.{list_any}
+use Rattle.std.specs.Prelude.{◌≡◌, List, [], ◌∷◌, Bool, true, false, ◌&&◌, ◌||◌, IsTrue, Option, Some, None, filter, if◌then◌else◌}
+use Rattle.wx_id.specs.Contexts.{same_context, is_among, is_other, are_distinct}
 use Rattle.wx_id.specs.declared.numbers.ContextNo.{ContextNo}
 use Rattle.wx_id.specs.declared.events.End.{End}
 use Rattle.wx_id.specs.declared.events.End.TheVariants.{Opener, Receiver, Neither}
-
--- two numbers of one context
-abbrev pub same_context : ContextNo → ContextNo → Bool
-same_context c d = c.0 == d.0
-
--- c is one of these contexts
-abbrev pub is_among : List ContextNo → ContextNo → Bool
-is_among cs c = list_any (λ d. same_context d c) cs
-
--- d is another context than c
-abbrev pub is_other : ContextNo → ContextNo → Bool
-is_other c d = not (same_context d c)
-
--- no context stands twice
-abbrev pub are_apart : List ContextNo → Bool
-are_apart [] = true
-are_apart (c ∷ cs) = not (is_among cs c) && are_apart cs
 
 -- a channel: its ends, its live receivers, and whether it is open
 pub record Port : Type 0 where
@@ -32,8 +15,8 @@ pub record Port : Type 0 where
 -- what holds of every channel: its ends are distinct, its live receivers are receivers and distinct, and none is live once it is closed
 pub record IsSound (port : Port) : Type 0 where
   pub opener : is_among port.receivers port.opener ≡ false
-  pub receivers : IsTrue (are_apart port.receivers)
-  pub live : IsTrue (are_apart port.live)
+  pub receivers : IsTrue (are_distinct port.receivers)
+  pub live : IsTrue (are_distinct port.live)
   pub within : (c : ContextNo) → IsTrue (is_among port.live c) → IsTrue (is_among port.receivers c)
   pub closed : port.is_open ≡ false → port.live ≡ []
 

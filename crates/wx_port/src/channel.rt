@@ -1,8 +1,10 @@
-ghost use Rattle.std.specs.Prelude.{◌≡◌, IsTrue, false, filter, Some};
+//! One channel: its ends, its live receivers, and whether it is open.
+ghost use Rattle.std.specs.Prelude.{◌≡◌, IsTrue, false, Some};
+ghost use Rattle.wx_id.specs.Contexts.{are_distinct, is_among};
 ghost use Rattle.wx_port.specs.Port as spec;
 
 use std::marker::Model;
-use wx_id::{ContextNo, End};
+use wx_id::{ContextNo, End, is_among, take_out};
 
 /// A channel, open or closed. Contracts see its ends, its live receivers and whether it is open.
 #[derive(Debug, Drop)]
@@ -33,25 +35,11 @@ impl Model for Channel {
     }) };
 }
 
-/// Whether c is one of these contexts.
-pub fn is_among(contexts: &[ContextNo], c: ContextNo) -> bool
-    ensures { result ≡ spec.is_among contexts.now c }
-{
-    contexts.iter().any(|d| d.0 == c.0)
-}
-
-/// Takes c out of these contexts.
-fn drop_context(contexts: &mut Vec<ContextNo>, c: ContextNo)
-    ensures { contexts.new.items ≡ filter (spec.is_other c) contexts.old.items }
-{
-    contexts.retain(|d| d.0 != c.0);
-}
-
 impl Channel {
     /// A channel as it is opened; `live` is a copy of the receivers.
     pub fn open(opener: ContextNo, receivers: Vec<ContextNo>, live: Vec<ContextNo>) -> Channel
-        requires apart { IsTrue (spec.are_apart receivers.items) }
-        requires opener { spec.is_among receivers.items opener ≡ false }
+        requires distinct { IsTrue (are_distinct receivers.items) }
+        requires opener { is_among receivers.items opener ≡ false }
         requires copy { live.items ≡ receivers.items }
         ensures { result ≡ spec.opened opener receivers.items }
     {
@@ -121,7 +109,7 @@ impl Channel {
             self.close();
             return;
         }
-        drop_context(&mut self.live, c);
+        take_out(&mut self.live, c);
         self.is_open = !self.live.is_empty();
     }
 

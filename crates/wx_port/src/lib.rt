@@ -4,7 +4,5 @@
 
 mod channel;
 mod ports;
-#[cfg(test)]
-mod tests;
 
 pub use ports::Ports;

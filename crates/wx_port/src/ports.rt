@@ -1,4 +1,6 @@
+//! The channels, each at the place of its number.
 ghost use Rattle.std.specs.Prelude.{◌≡◌, ℕ, ◌<◌, ◌≤◌, [], ◌∷◌, ◌++◌, IsTrue, false, IsNone, IfOk, IfErr, IfSome, OnOk, OnErr, length, map, not, slice_get, slice_set};
+ghost use Rattle.wx_id.specs.Contexts.{are_distinct, is_among};
 ghost use Rattle.wx_port.specs.Port as spec;
 
 use crate::channel::Channel;
@@ -49,8 +51,8 @@ impl Ports {
         opener: ContextNo,
         receivers: Vec<ContextNo>,
     ) -> Result<ChannelNo, Vec<ContextNo>>
-        requires apart { IsTrue (spec.are_apart receivers.items) }
-        requires opener { spec.is_among receivers.items opener ≡ false }
+        requires distinct { IsTrue (are_distinct receivers.items) }
+        requires opener { is_among receivers.items opener ≡ false }
         ensures number { IfOk result (λ k. k.0 ≡ length self.old) }
         ensures ok { OnOk result (self.new ≡ self.old ++ spec.opened opener receivers.items ∷ []) }
         ensures err { OnErr result (self.new ≡ self.old) }
@@ -120,7 +122,8 @@ impl Ports {
     /// where no other is live.
     pub fn drop_end(&mut self, k: ChannelNo, c: ContextNo) -> bool
         requires { IsTrue (spec.is_live_end (slice_get self.old k.0) c) }
-        ensures ports { IfSome (slice_get self.old k.0) (λ port. self.new ≡ slice_set self.old k.0 (spec.without c port)) }
+        ensures ports { IfSome (slice_get self.old k.0)
+            (λ port. self.new ≡ slice_set self.old k.0 (spec.without c port)) }
         ensures closed { result ≡ not (spec.is_open_port (slice_get self.new k.0)) }
     {
         let channel = &mut self.channels[k.0 as usize];

@@ -33,8 +33,10 @@ use Rattle.wx_laws.specs.Prefix.{IsPrefix}
 use Rattle.wx_laws.specs.ClosingLaw.{are_across}
 use Rattle.wx_laws.specs.PrefixLaw.{is_message, messages, gives, given, for_work}
 use Rattle.wx_laws.proofs.HostTexts.{hosts_take_in_order_lem}
-use Rattle.wx_laws.proofs.Places.{get_options}
-use Rattle.wx_reports.specs.Reports.{entry_no, is_posting, posted, is_taking, taken as reported_taken}
+use Rattle.wx_machine.proofs.Lists.{get_options}
+use Rattle.wx_laws.proofs.Numbers.{eqb_above}
+use Rattle.wx_id.specs.Numbers.{entry_no}
+use Rattle.wx_reports.specs.Reports.{is_posting, posted, is_taking, taken as reported_taken}
 use Rattle.wx_reports.specs.Counts.{given_on, sum_below, taken_by, taken_by_host, taken_on}
 
 abbrev one_if : Bool → ℕ
@@ -88,9 +90,6 @@ sum_same f g (suc n) same =
     let last : g n ≡ f n = same n (omega arith) in
     rw (before, last) refl
 
-apart : (m n : ℕ) → n < m → (m == n) ≡ false
-apart m n h = grind (arith, nat_tests)
-
 -- a sum in which one term is one more
 sum_one : (f g : ℕ → ℕ) (m n : ℕ) → m < n → ((i : ℕ) → i < n → g i ≡ f i + one_if (m == i)) → sum_below g n ≡ sum_below f n + 1
 sum_one f g m zero below more = absurd (omega arith)
@@ -99,7 +98,7 @@ sum_one f g m (suc n) below more = parts (m == n) refl (λ less. sum_one f g m n
     parts : (b : Bool) → (m == n) ≡ b → (m < n → sum_below g n ≡ sum_below f n + 1) → sum_below g n + g n ≡ (sum_below f n + f n) + 1
     parts true is rest =
         let same : m ≡ n = eqb-true m n is in
-        let before : sum_below g n ≡ sum_below f n = sum_same f g n (λ i l. more i (omega arith) ∙ rw (apart m i (omega arith)) (omega arith)) in
+        let before : sum_below g n ≡ sum_below f n = sum_same f g n (λ i l. more i (omega arith) ∙ rw (eqb_above m i (omega arith)) (omega arith)) in
         let last : g n ≡ f n + 1 = more n (omega arith) ∙ rw is refl in
         omega arith
     parts false is rest =

@@ -4,21 +4,18 @@ use Rattle.std.specs.Prelude.{Option, Some, None, ◌&&◌, is_some, ◌==◌, I
 use Rattle.std.specs.Option.{option_or, option_map}
 use Rattle.std.proofs.lemmas.Bool.Decides.{nat_tests}
 use Rattle.std.proofs.lemmas.Option.{same_Some, none-some}
+use Rattle.std.proofs.lemmas.Bool.{and_parts}
+use Rattle.wx_laws.proofs.Numbers.{eqb_refl, eqb_above}
 use Rattle.wx_id.specs.declared.numbers.EntryNo.{EntryNo}
 use Rattle.wx_machine.specs.declared.entries.Entry.{Entry}
 use Rattle.wx_machine.specs.Requests.{request}
 use Rattle.wx_machine.specs.Closing.{ends_channel, closed_at, is_closed, closes}
 use Rattle.wx_machine.specs.Settling.{ends_request, is_settled, settles}
 use Rattle.wx_reports.specs.declared.requests.Settled.{Settled}
-use Rattle.wx_reports.specs.Reports.{entry_no, opens_channel, opened_at, makes_request, asked_at, way, settlement}
+use Rattle.wx_id.specs.Numbers.{entry_no}
+use Rattle.wx_reports.specs.Reports.{opens_channel, opened_at, makes_request, asked_at, way, settlement}
 use Rattle.wx_reports.specs.Places.{entry_at, IsOpening, IsClosing, IsAsking, IsSettlement}
 use Rattle.wx_reports.proofs.ReportsLater.{is_settled_there}
-
-same_number : (n : ℕ) → (n == n) ≡ true
-same_number n = grind (arith, nat_tests)
-
-later_number : (m n : ℕ) → n < m → (m == n) ≡ false
-later_number m n h = grind (arith, nat_tests)
 
 -- f tells a value of the first entry that passes the test, with its number; and there is one or not
 record IsFirst {X : Type 0} (f : List Entry → Option X) (test : List Entry → Entry → Bool) (value : List Entry → Entry → X) (number : X → ℕ) (there : List Entry → Bool) : Type 0 where
@@ -50,7 +47,7 @@ found_here f test value number there law e past was now = (
     below = let n : number (value past e) ≡ length past = law.numbered e past in omega arith
 
     here : (length past == number (value past e)) ≡ true
-    here = ap (λ n. length past == n) (law.numbered e past) ∙ same_number (length past)
+    here = ap (λ n. length past == n) (law.numbered e past) ∙ eqb_refl (length past)
 
     first : (not (there past) && test past e) ≡ true
     first = ap (λ b. not b && test past e) (sym (law.told past) ∙ ap is_some was) ∙ now
@@ -61,7 +58,7 @@ found_step f test value number there law e past x rest (Some y) was b now is = l
     later : Found test value number there past x → Found test value number there (e ∷ past) x
     later r = (
       let h : number x < length past = r.0 in omega arith,
-      ap (λ b. option_map (told_by test value there) (here_or past e (entry_at past (number x)) b)) (later_number (length past) (number x) r.0) ∙ r.1,
+      ap (λ b. option_map (told_by test value there) (here_or past e (entry_at past (number x)) b)) (eqb_above (length past) (number x) r.0) ∙ r.1,
     )
 found_step f test value number there law e past x rest None was true now is =
     subst (λ y. Found test value number there (e ∷ past) y) (same_Some (value past e) x is) (found_here f test value number there law e past was now)
@@ -77,10 +74,6 @@ asked_of : {P A B : Type 0} (o : Option P) (g : P → A) (h : P → B) (a : A) (
 asked_of None g h a b so is = absurd (none-some a is)
 asked_of (Some p) g h a b so is = ap Some (so p (same_Some (g p) a is))
 
-second : (a b : Bool) → (a && b) ≡ true → b ≡ true
-second true b h = h
-second false b h = absurd (cc)
-
 abbrev numbered_after : List Entry → Entry → EntryNo
 numbered_after past e = entry_no (length past)
 
@@ -94,7 +87,7 @@ verdict q = q.0
 numbered_at : (f : List Entry → Option EntryNo) (test : List Entry → Entry → Bool) → f [] ≡ None → ((e : Entry) (past : List Entry) → f (e ∷ past) ≡ option_or (f past) (cond (test past e) (Some (entry_no (length past))) None)) → (past : List Entry) (n : EntryNo) → f past ≡ Some n → option_map (λ (p : List Entry × Entry). test p.0 p.1) (entry_at past n.0) ≡ Some true
 numbered_at f test none more past n is =
     asked_of (entry_at past n.0) (told_by test numbered_after (λ past. is_some (f past))) (λ (p : List Entry × Entry). test p.0 p.1) (true, n) true
-    (λ p so. second (not (is_some (f p.0))) (test p.0 p.1) (ap verdict so))
+    (λ p so. (and_parts (not (is_some (f p.0))) (test p.0 p.1) (ap verdict so)).1)
     ((found f test numbered_after number_in (λ past. is_some (f past)) (record { none = none; more = more; numbered = λ e past. refl; told = λ past. refl }) past n is).1)
 
 -- a channel's opening

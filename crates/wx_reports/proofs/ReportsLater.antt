@@ -9,7 +9,8 @@ use Rattle.wx_machine.specs.Requests.{asks, requests, request}
 use Rattle.wx_machine.specs.Settling.{ends_request, settled_at}
 use Rattle.wx_walks.proofs.EndsLater.{place_more}
 use Rattle.wx_reports.specs.declared.requests.Settled.{Settled}
-use Rattle.wx_reports.specs.Reports.{entry_no, opened_at, asked_at, settlement, way}
+use Rattle.wx_id.specs.Numbers.{entry_no}
+use Rattle.wx_reports.specs.Reports.{opened_at, asked_at, settlement, way}
 
 some_or : (o : Option EntryNo) (n : EntryNo) (b t : Bool) → is_some (option_or o (cond (b && t) (Some n) None)) ≡ cond (b && t) t (is_some o)
 some_or None n true true = refl

@@ -1,6 +1,7 @@
 -- What a journal, legal or not, tells of a channel and of a request.
 use Rattle.std.specs.Prelude.{ℕ, ◌+◌, length, List, [], ◌∷◌, Bool, true, false, cond, Option, Some, None, is_some, ◌&&◌, ◌==◌}
 use Rattle.std.specs.Option.{option_or, option_map}
+use Rattle.wx_id.specs.Numbers.{entry_no}
 use Rattle.wx_id.specs.declared.numbers.EntryNo.{EntryNo}
 use Rattle.wx_machine.specs.declared.entries.Who.{Who}
 use Rattle.wx_machine.specs.declared.entries.Who.TheVariants.{Context as ByContext, Host as ByHost}
@@ -20,10 +21,7 @@ use Rattle.wx_reports.specs.declared.requests.RequestReport.{RequestReport}
 use Rattle.wx_reports.specs.declared.requests.Settled.{Settled}
 use Rattle.wx_reports.specs.declared.requests.Settled.TheVariants.{First, Closed, Left}
 
-abbrev pub entry_no : ℕ → EntryNo
-entry_no n = record { 0 = n }
-
--- entry e opens channel k: it opens a channel, behind k others
+-- entry e opens channel k: it opens a channel, after k others
 abbrev pub opens_channel : List Entry → Entry → ℕ → Bool
 opens_channel past e k = (length (channels past) == k) && is_some (opens past e)
 
@@ -63,7 +61,7 @@ port_report_of past k (Some opened) = Some (record { opened = opened; closed = o
 abbrev pub port_report : List Entry → ℕ → Option PortReport
 port_report past k = port_report_of past k (opened_at past k)
 
--- entry e makes request r: it makes a request, behind r others
+-- entry e makes request r: it makes a request, after r others
 abbrev pub makes_request : List Entry → Entry → ℕ → Bool
 makes_request past e r = (length (requests past) == r) && is_some (asks past e)
 

@@ -13,7 +13,8 @@ use Rattle.wx_reports.specs.declared.ports.PortReport.{PortReport}
 use Rattle.wx_reports.specs.declared.requests.RequestReport.{RequestReport}
 use Rattle.wx_reports.specs.declared.requests.Settled.{Settled}
 use Rattle.wx_reports.specs.declared.requests.Settled.TheVariants.{First, Closed, Left}
-use Rattle.wx_reports.specs.Reports.{entry_no, port_report, request_report}
+use Rattle.wx_id.specs.Numbers.{entry_no}
+use Rattle.wx_reports.specs.Reports.{port_report, request_report}
 
 -- the past that the calls make
 abbrev pub made : WorldLists → List (Who × Call) → List Entry
@@ -36,7 +37,7 @@ OneConnection =
 abbrev pub to_one_listener : List (Who × Call)
 to_one_listener = by 0 (a_page (codes "/q")) ∷ by 1 (a_page (codes "/p")) ∷ by 1 listen_connect ∷ by 0 connect ∷ by 1 listen_connect ∷ []
 
--- what is taken behind the opener's leave counts
+-- what is taken after the opener's leave counts
 abbrev pub PostsOutliveTheOpener : Type 0
 PostsOutliveTheOpener =
     (world : WorldLists) → port_report

@@ -6,7 +6,7 @@ pub fn one_connection()
     ensures { OneConnection }
 {}
 
-/// What is taken behind the opener's leave counts.
+/// What is taken after the opener's leave counts.
 pub fn posts_outlive_the_opener()
     ensures { PostsOutliveTheOpener }
 {}

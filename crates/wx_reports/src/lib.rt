@@ -4,8 +4,6 @@
 pub mod laws;
 mod ports;
 mod requests;
-#[cfg(test)]
-mod tests;
 
 pub use ports::{PortReport, port_report};
 pub use requests::{RequestReport, Settled, request_report};

@@ -1,3 +1,4 @@
+//! What a journal tells of one channel.
 ghost use Rattle.std.specs.Prelude.{◌≡◌, Some, None, cond, is_some, reverse};
 ghost use Rattle.std.specs.Option.{option_or, option_map, IfSome};
 ghost use Rattle.wx_external.specs.World.{WorldLists};
@@ -7,7 +8,8 @@ ghost use Rattle.wx_machine.specs.Closing.{closed_at};
 ghost use Rattle.wx_laws.specs.Keeping.{KeepsChannel};
 ghost use Rattle.wx_reports.specs.Counts.{given_on, taken_on};
 ghost use Rattle.wx_reports.specs.Places.{IsOpening, IsClosing};
-ghost use Rattle.wx_reports.specs.Reports.{entry_no, opened_at, is_posting, posted, is_taking, taken, port_report};
+ghost use Rattle.wx_id.specs.Numbers.{entry_no};
+ghost use Rattle.wx_reports.specs.Reports.{opened_at, is_posting, posted, is_taking, taken, port_report};
 
 use wx_id::{ChannelNo, EntryNo, EventKind};
 use wx_machine::{Answer, Call, Entry, Who};
@@ -132,9 +134,12 @@ pub fn port_report(entries: &[Entry], k: ChannelNo) -> Option<PortReport>
     ensures there { is_some result ≡ is_some (channel (reverse entries.now) k.0) }
     ensures opened { IfSome result (λ report. IsOpening (reverse entries.now) k.0 report.opened) }
     ensures closed { IfSome result (λ report. IfSome report.closed (IsClosing (reverse entries.now) k.0)) }
-    ensures laws { (world : WorldLists) → IsLegal world entries.now → IfSome result (λ report. KeepsChannel entries.now k.0 (option_map (λ n. n.0) report.closed)) }
-    ensures given { (world : WorldLists) → IsLegal world entries.now → IfSome result (λ report. report.posted ≡ given_on (reverse entries.now) k.0) }
-    ensures taken { (world : WorldLists) → IsLegal world entries.now → IfSome result (λ report. report.taken ≡ taken_on (reverse entries.now) k.0) }
+    ensures laws { (world : WorldLists) → IsLegal world entries.now
+        → IfSome result (λ report. KeepsChannel entries.now k.0 (option_map (λ n. n.0) report.closed)) }
+    ensures given { (world : WorldLists) → IsLegal world entries.now
+        → IfSome result (λ report. report.posted ≡ given_on (reverse entries.now) k.0) }
+    ensures taken { (world : WorldLists) → IsLegal world entries.now
+        → IfSome result (λ report. report.taken ≡ taken_on (reverse entries.now) k.0) }
 {
     match opened_at(entries, k) {
         None => None,

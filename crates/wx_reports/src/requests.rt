@@ -1,3 +1,4 @@
+//! What a journal tells of one request.
 ghost use Rattle.std.specs.Prelude.{◌≡◌, Some, None, cond, is_some, length, reverse};
 ghost use Rattle.std.specs.Option.{option_or, option_map, IfSome};
 ghost use Rattle.wx_external.specs.World.{WorldLists};
@@ -6,7 +7,8 @@ ghost use Rattle.wx_machine.specs.Requests.{request};
 ghost use Rattle.wx_machine.specs.Settling.{ends_request, settled_at};
 ghost use Rattle.wx_laws.specs.Keeping.{KeepsRequest};
 ghost use Rattle.wx_reports.specs.Places.{IsAsking, IsSettlement};
-ghost use Rattle.wx_reports.specs.Reports.{entry_no, asked_at, way, settlement, request_report};
+ghost use Rattle.wx_id.specs.Numbers.{entry_no};
+ghost use Rattle.wx_reports.specs.Reports.{asked_at, way, settlement, request_report};
 
 use crate::ports::found_at;
 use wx_id::{EntryNo, RequestNo};
@@ -108,7 +110,8 @@ pub fn request_report(entries: &[Entry], r: RequestNo) -> Option<RequestReport>
     ensures tells { result ≡ request_report (reverse entries.now) r.0 }
     ensures there { is_some result ≡ is_some (request (reverse entries.now) r.0) }
     ensures opened { IfSome result (λ report. IsAsking (reverse entries.now) r.0 report.opened) }
-    ensures settled { IfSome result (λ report. option_map (λ s. s.0.0) report.settled ≡ settled_at (reverse entries.now) r.0) }
+    ensures settled { IfSome result
+        (λ report. option_map (λ s. s.0.0) report.settled ≡ settled_at (reverse entries.now) r.0) }
     ensures way { IfSome result (λ report. IfSome report.settled (IsSettlement (reverse entries.now) r.0)) }
     ensures laws { (world : WorldLists) → IsLegal world entries.now → KeepsRequest entries.now r.0 }
 {

@@ -35,7 +35,8 @@ use Rattle.wx_script.specs.Places.{outside, place_of, place_behind, at_start, is
 use Rattle.wx_script.specs.Carries.{MayCome}
 use Rattle.wx_script.specs.Ends.{numbered, entries_by, entry_limit, is_idle}
 use Rattle.wx_script.proofs.ByLemmas.{is_by-own, is_by-other}
-use Rattle.wx_endpoint.specs.History.{seen_by, MayStand, CarriesOn}
+use Rattle.wx_desk.specs.History.{seen_by}
+use Rattle.wx_endpoint.specs.History.{MayStand, CarriesOn}
 use Rattle.wx_endpoint.specs.Turn.{CursorState}
 use Rattle.wx_run.specs.declared.outcome.RunEnd.{RunEnd}
 use Rattle.wx_run.specs.Opening.{entered, listened, first_listen, first_entries, opening_from, opening}
@@ -76,11 +77,11 @@ none_by c (e ∷ past) below =
     entries_by-other below.1.c c past e below.1.own apart ∙ none_by c past below.0
 
 -- so none of its entries is to be carried out
-carries_none : (s : List Command) (c : ContextNo) (past : List Entry) → AreBelow c.0 past → CarriesOn s c (seen_by c past)
+carries_none : (s : List Command) (c : ContextNo) (past : List Entry) → AreBelow c.0 past → CarriesOn s c (seen_by (ByContext c) past)
 carries_none s c [] below = tt
 carries_none s c (e ∷ past) below =
     let apart : below.1.c.0 ≢ c.0 = (let less = below.1.below in omega arith) in
-    (carries_none s c past below.0, subst (λ b. MayStand s c b (seen_by c past) e) (sym (is_by-other e.who below.1.c c below.1.own apart)) tt)
+    (carries_none s c past below.0, subst (λ b. MayStand s c b (seen_by (ByContext c) past) e) (sym (is_by-other e.who below.1.c c below.1.own apart)) tt)
 
 has_left-below : (past : List Entry) (c : ContextNo) → AreBelow c.0 past → has_left past c ≡ false
 has_left-below [] c below = refl
@@ -155,7 +156,7 @@ ready_entered world past s x legal below follows =
       legal = (legal, follows);
       given = omega arith;
       behind = entered_cursor s c x past below;
-      carries = (carries_none s c past below, subst (λ b. MayStand s c b (seen_by c past) (entered c x)) (sym own) (may_stand s c past (entered c x) may));
+      carries = (carries_none s c past below, subst (λ b. MayStand s c b (seen_by (ByContext c) past) (entered c x)) (sym own) (may_stand s c past (entered c x) may));
       unspent = refl;
     }
 
@@ -390,25 +391,25 @@ pub opened_ready : (writing : Option Writing) (world : WorldLists) (endpoints : 
 opened_ready writing world endpoints ps past so = record {
   endpoints = opened_stand world endpoints ps past so;
   hosts_stand = opened_hosts writing world endpoints ps past so;
-  go_on = record { unspent = so.unspent; hosts_unspent = refl; all = ap length (sym so.no_hosts); started = tt };
+  unspent = so.unspent;
+  hosts_unspent = refl;
+  all = ap length (sym so.no_hosts);
 }
 
-pub opened_rounds : (world : WorldLists) (scene : SceneValue) (ps : List CursorState) (opened after : List Entry) (end : RunEnd) → OpenedSoFar world scene.endpoints (length scene.endpoints) ps opened → AreRounds (scripts_in ps) opened after end
-    → AreRounds (scripts_of scene) (reverse (opening scene)) after end
+pub opened_rounds : (world : WorldLists) (scene : SceneValue) (ps : List CursorState) (opened after : List Entry) (end : RunEnd) → OpenedSoFar world scene.endpoints (length scene.endpoints) ps opened → AreRounds 0 (scripts_in ps) opened after end
+    → AreRounds 0 (scripts_of scene) (reverse (opening scene)) after end
 opened_rounds world scene ps opened after end so came =
     let endpoints = scene.endpoints in
     let begins : opened ≡ reverse (opening scene) = so.begins ∙ ap (λ es. reverse (opening_from 0 es)) (take-length endpoints) in
-    subst (λ j. AreRounds (scripts_of scene) j after end) begins
-    (subst (λ ss. AreRounds ss opened after end) (opened_scripts world endpoints ps opened so) came)
+    subst (λ j. AreRounds 0 (scripts_of scene) j after end) begins
+    (subst (λ ss. AreRounds 0 ss opened after end) (opened_scripts world endpoints ps opened so) came)
 
-pub run_of : (world : WorldLists) (scene : SceneValue) (journal : List Entry) (end : RunEnd) → IsLegal world journal → AreHostsWithin (reverse journal) → AreRounds (scripts_of scene) (reverse (opening scene)) (reverse journal) end → IsRunOf world scene journal end
+pub run_of : (world : WorldLists) (scene : SceneValue) (journal : List Entry) (end : RunEnd) → IsLegal world journal → AreHostsWithin (reverse journal) → AreRounds 0 (scripts_of scene) (reverse (opening scene)) (reverse journal) end → IsRunOf world scene journal end
 run_of world scene journal end legal hosts_within rounds = record {
   legal = legal;
   laws = legal_keeps_laws world journal legal;
   carries_out = rounds.follows;
-  begins = begins_with rounds.count (scripts_of scene) (opening scene) journal rounds.rounds;
-  count = rounds.count;
-  in_rounds = rounds.rounds;
+  begins = begins_with rounds.count 0 (scripts_of scene) (opening scene) journal rounds.rounds;
   within_limit = rounds.within_limit;
   hosts_within_limit = hosts_within;
   ended = rounds.ended;

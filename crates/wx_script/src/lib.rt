@@ -3,20 +3,16 @@
 
 mod draft;
 pub mod endings;
-#[cfg(test)]
-mod fault_tests;
 pub mod laws;
 mod line;
 mod names;
 mod reading;
 mod scene;
 mod script;
-#[cfg(test)]
-mod tests;
 mod word;
 
 pub use scene::{
-    Scene, SceneEndpoint, SceneExtension, SceneFault, SceneFile, SceneKind, SceneReadFault,
+    How, Scene, SceneEndpoint, SceneExtension, SceneFault, SceneFile, SceneKind, SceneReadFault,
     SpentWho,
 };
 pub use script::{Act, Command, Heard, Received, Script, Var};

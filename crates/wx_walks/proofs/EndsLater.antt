@@ -3,13 +3,17 @@ use Rattle.std.proofs.Common.{◌≡◌, ℕ, suc, zero, ◌+◌, List, [], ◌�
 use Rattle.std.specs.Prelude.{Option, Some, None, ◌||◌, ◌&&◌, is_some, option_to_list, slice_get, filter, ◌==◌}
 use Rattle.std.specs.Option.{option_or}
 use Rattle.std.proofs.lemmas.Bool.Decides.{nat_tests, Decides-eqb}
+use Rattle.std.proofs.lemmas.Option.{slice_get_past}
+use Rattle.wx_id.proofs.ContextLemmas.{same_context_is}
+use Rattle.wx_machine.proofs.Lists.{get_options}
+use Rattle.wx_id.specs.Contexts.{is_among, same_context}
 use Rattle.wx_id.specs.declared.numbers.ContextNo.{ContextNo}
 use Rattle.wx_context.specs.declared.contexts.Context.{Context}
 use Rattle.wx_context.specs.declared.contexts.Target.{Target}
 use Rattle.wx_machine.specs.declared.sorts.Sort.{Sort}
 use Rattle.wx_machine.specs.declared.entries.Entry.{Entry}
-use Rattle.wx_machine.specs.Contexts.{same_context, is_there, if_numbered, enters, context_of, numbers, numbers_of, has_left, reaches_from, listens_of, is_receiver, receivers_of}
-use Rattle.wx_machine.specs.Channels.{Ends, opens, channels, channel, end_in, is_among}
+use Rattle.wx_machine.specs.Contexts.{is_there, if_numbered, enters, context_of, numbers, numbers_of, has_left, reaches_from, listens_of, is_receiver, receivers_of}
+use Rattle.wx_machine.specs.Channels.{Ends, opens, channels, channel, end_in}
 use Rattle.wx_walks.proofs.Past.{came_more}
 
 pub length_options : {X : Type 0} (xs : List X) (o : Option X) → length (xs ++ option_to_list o) ≡ cond (is_some o) (length xs + 1) (length xs)
@@ -21,28 +25,6 @@ length_options (y ∷ xs) (Some x) = ap suc (length_options xs (Some x)) ∙ ome
 -- how many channels there are after one more entry
 pub channels_more : (e : Entry) (past : List Entry) → length (channels (e ∷ past)) ≡ cond (is_some (opens past e)) (length (channels past) + 1) (length (channels past))
 channels_more e past = length_options (channels past) (opens past e)
-
-same_none : {X : Type 0} (b : Bool) → cond {A = Option X} b None None ≡ None
-same_none true = refl
-same_none false = refl
-
-zero_suc : (k : ℕ) → (0 == suc k) ≡ false
-zero_suc k = grind (arith, nat_tests)
-
-suc_suc : (m k : ℕ) → (suc m == suc k) ≡ (m == k)
-suc_suc m k = grind (arith, nat_tests)
-
-get_options : {X : Type 0} (xs : List X) (o : Option X) (k : ℕ) → slice_get (xs ++ option_to_list o) k ≡ option_or (slice_get xs k) (cond (length xs == k) o None)
-get_options [] None zero = refl
-get_options [] None (suc k) = sym (same_none (0 == suc k))
-get_options [] (Some x) zero = refl
-get_options [] (Some x) (suc k) = rw (zero_suc k) refl
-get_options (y ∷ xs) o zero = refl
-get_options (y ∷ xs) o (suc k) = rw (suc_suc (length xs) k) (get_options xs o k)
-
-get_past : {X : Type 0} (xs : List X) → slice_get xs (length xs) ≡ None
-get_past [] = refl
-get_past (x ∷ xs) = get_past xs
 
 answer_or : {X Y : Type 0} (F : Option X → Y) (o p : Option X) (b : Bool) → (b ≡ true → o ≡ None) → F (option_or o (cond b p None)) ≡ cond (b && is_some p) (F p) (F o)
 answer_or F o None true h = rw (h refl) refl
@@ -60,7 +42,7 @@ place_more F xs o k =
     eqb_is m n h = (Decides-eqb m n).0 h
 
     at_end : length xs ≡ k → slice_get xs k ≡ None
-    at_end h = subst (λ (n : ℕ). slice_get xs n ≡ None) h (get_past xs)
+    at_end h = subst (λ (n : ℕ). slice_get xs n ≡ None) h (slice_get_past xs (length xs) (omega arith))
 
 -- what is asked of channel k after one more entry
 pub channel_more : {Y : Type 0} (F : Option Ends → Y) (e : Entry) (past : List Entry) (k : ℕ) → F (channel (e ∷ past) k) ≡ cond ((length (channels past) == k) && is_some (opens past e)) (F (opens past e)) (F (channel past k))
@@ -69,10 +51,6 @@ channel_more F e past k = place_more F (channels past) (opens past e) k
 -- what a context is to channel k after one more entry
 pub end_more : (e : Entry) (past : List Entry) (k : ℕ) (c : ContextNo) → end_in (channel (e ∷ past) k) c ≡ cond ((length (channels past) == k) && is_some (opens past e)) (end_in (opens past e) c) (end_in (channel past k) c)
 end_more e past k c = channel_more (λ o. end_in o c) e past k
-
--- contexts of one number are one
-pub same_context_is : (c d : ContextNo) → same_context c d ≡ true → c ≡ d
-same_context_is c d h = let P : ℕ → ContextNo = λ n. record { 0 = n } in ap P ((Decides-eqb c.0 d.0).0 h)
 
 among_or : (xs ys : List ContextNo) (c : ContextNo) → is_among (xs ++ ys) c ≡ (is_among xs c || is_among ys c)
 among_or [] ys c = refl

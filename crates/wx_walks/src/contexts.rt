@@ -164,17 +164,11 @@ pub fn extension_of(x: &Context) -> Option<&ExtensionId>
     }
 }
 
-fn same_extension(a: &ExtensionId, b: &ExtensionId) -> bool
-    ensures { result ≡ bytes_eq a.now b.now }
-{
-    *a == *b
-}
-
 fn is_extension(own: Option<&ExtensionId>, id: &ExtensionId) -> bool
     ensures { result ≡ is_extension (option_copied own.entry) id.now }
 {
     match own {
-        Some(ext) => same_extension(ext, id),
+        Some(ext) => ext.is(id),
         None => false,
     }
 }

@@ -5,8 +5,7 @@ mod operands;
 mod plain;
 mod readers;
 mod run;
-#[cfg(test)]
-mod tests;
 
 pub use plain::{PlainCommand, plain_command};
-pub use run::scene_named;
+pub use run::{how_asked, scene_named};
+pub use wx_script::How;

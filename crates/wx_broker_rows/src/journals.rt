@@ -1,0 +1,169 @@
+//! Journals that are made entry by entry: their texts and reports.
+use crate::values::{A, json, name, page};
+use std::alloc::Global;
+use std::process::Abort;
+use std::test::Fail;
+use wx_context::Target;
+use wx_id::{ChannelNo, ContextNo, EntryNo, Event, EventKind, HostNo, RequestNo};
+use wx_journal::{Journal, PortReport, RequestReport};
+use wx_machine::{Answer, Call, Entry, JsonKind, Reason, Who};
+
+/// Appends an entry of context 0.
+fn add(journal: &mut Journal, call: Call, answer: Answer) -> Option<()> {
+    let who = Who::Context(ContextNo(0));
+    journal.push(Entry { who, call, answer }).ok()
+}
+
+fn closed(r: u64, entry: u64) -> Answer {
+    let (entry, kind) = (EntryNo(entry), EventKind::Closed(RequestNo(r)));
+    Answer::Event(Event { entry, kind })
+}
+
+fn seven_entries(alloc: Global) -> Option<Journal> {
+    let mut journal = Journal::new(alloc);
+    journal.reserve(7).ok()?;
+    add(
+        &mut journal,
+        Call::Enter(page(alloc, A, "/q")?),
+        Answer::Entered(ContextNo(0)),
+    )?;
+    let port = name(alloc, "a\nb")?;
+    add(
+        &mut journal,
+        Call::Connect(Target::Own, port),
+        Answer::NoReceiver,
+    )?;
+    let post = Call::Post(ChannelNo(7), json(alloc, "10")?);
+    add(&mut journal, post, Answer::NoPort)?;
+    let send = Call::Send(Target::Own, json(alloc, "[1]")?);
+    add(&mut journal, send, Answer::Request(RequestNo(0)))?;
+    let reply = Call::Reply(RequestNo(3), json(alloc, "10.5")?);
+    add(&mut journal, reply, Answer::NotYours)?;
+    add(&mut journal, Call::Decline(RequestNo(3)), Answer::Late)?;
+    add(&mut journal, Call::Take, closed(2, 9))?;
+    Some(journal)
+}
+
+const SEVEN_TEXT: &[u8] =
+    b"wx journal 1 chrome\nc0 enter page aaaaaaaaaaaaaaaaaaaaaaaaaaaaaaaa 2:/q -> context 0\nc0 connect own 3:a\nb -> no_receiver\nc0 post 7 2:10 -> no_port\nc0 send own 3:[1] -> request 0\nc0 reply 3 4:10.5 -> not_yours\nc0 decline 3 -> late\nc0 take -> closed 2 9\n";
+
+/// Whether that is the text of the journal.
+fn prints(alloc: Global, journal: &Journal, want: &[u8]) -> bool {
+    match journal.print(alloc) {
+        Ok(text) => text.as_slice() == want,
+        Err(_) => false,
+    }
+}
+
+#[test]
+fn journal_and_text(rt: HostRuntime) -> Result<(), Fail> {
+    match seven_entries(rt.alloc()) {
+        Some(journal) => {
+            assert_eq!(rt; journal.len(), 7);
+            assert_eq!(rt; journal.text_of(EntryNo(2)).map(|text| text.len()), Some(2));
+            assert_eq!(rt; journal.text_of(EntryNo(3)).map(|text| text.len()), Some(3));
+            assert_eq!(rt; journal.text_of(EntryNo(4)).map(|text| text.len()), Some(4));
+            assert!(rt; journal.text_of(EntryNo(5)).is_none());
+            assert!(rt; journal.entry(EntryNo(7)).is_none());
+            assert!(rt; prints(rt.alloc(), &journal, SEVEN_TEXT));
+        }
+        None => assert!(rt; false),
+    }
+    Ok(())
+}
+
+fn one_channel(alloc: Global) -> Option<Journal> {
+    let mut journal = Journal::new(alloc);
+    let enter = Call::Enter(page(alloc, A, "/q")?);
+    add(&mut journal, enter, Answer::Entered(ContextNo(0)))?;
+    let connect = Call::Connect(Target::Own, name(alloc, "a")?);
+    let (channel, opened) = (ChannelNo(0), Answer::Channel(ChannelNo(0)));
+    add(&mut journal, connect, opened)?;
+    let post = Call::Post(channel, json(alloc, "1")?);
+    add(&mut journal, post, Answer::Posted)?;
+    add(&mut journal, Call::Disconnect(channel), Answer::Done)?;
+    Some(journal)
+}
+
+#[test]
+fn reports(rt: HostRuntime) -> Result<(), Fail> {
+    match (seven_entries(rt.alloc()), one_channel(rt.alloc())) {
+        (Some(seven), Some(one)) => {
+            assert_eq!(rt; seven.port_report(ChannelNo(0)), None);
+            assert_eq!(rt; seven.request_report(RequestNo(3)), None);
+            assert_eq!(rt;
+                seven.request_report(RequestNo(0)),
+                Some(RequestReport {
+                    opened: EntryNo(3),
+                    settled: None
+                })
+            );
+            let report = PortReport {
+                opened: EntryNo(1),
+                closed: Some(EntryNo(3)),
+                posted: 1,
+                taken: 0,
+            };
+            assert_eq!(rt; one.port_report(ChannelNo(0)), Some(report));
+        }
+        _ => assert!(rt; false),
+    }
+    Ok(())
+}
+
+/// Each reason of a host's end.
+const REASONS: [Reason; 11] = [
+    Reason::StartFailed,
+    Reason::ReadFailed,
+    Reason::WriteFailed,
+    Reason::TooLong { len: 1_048_577 },
+    Reason::BadJson {
+        place: 2,
+        kind: JsonKind::Syntax,
+    },
+    Reason::BadJson {
+        place: 0,
+        kind: JsonKind::Utf8,
+    },
+    Reason::BadJson {
+        place: 1_024,
+        kind: JsonKind::TooDeep,
+    },
+    Reason::BadJson {
+        place: 0,
+        kind: JsonKind::Ends,
+    },
+    Reason::Cut { have: 5 },
+    Reason::Exited,
+    Reason::Closed,
+];
+
+/// A native call that is refused, and each reason of a host's end.
+fn native_calls(alloc: Global) -> Option<Journal> {
+    let mut journal = Journal::new(alloc);
+    let (who, host) = (Who::Context(ContextNo(2)), Who::Host(HostNo(7)));
+    let call = Call::SendNative(name(alloc, "a b")?, json(alloc, "[]")?);
+    let answer = Answer::BadHostName;
+    journal.push(Entry { who, call, answer }).ok()?;
+    for reason in REASONS {
+        let (call, answer) = (Call::HostEnded(reason), Answer::Already);
+        journal
+            .push(Entry {
+                who: host,
+                call,
+                answer,
+            })
+            .ok()?;
+    }
+    Some(journal)
+}
+
+const NATIVE_TEXT: &[u8] =
+    b"wx journal 1 chrome\nc2 send_native 3:a b 2:[] -> bad_host_name\nh7 host_ended start_failed -> already\nh7 host_ended read_failed -> already\nh7 host_ended write_failed -> already\nh7 host_ended too_long 1048577 -> already\nh7 host_ended bad_json 2 syntax -> already\nh7 host_ended bad_json 0 utf8 -> already\nh7 host_ended bad_json 1024 too_deep -> already\nh7 host_ended bad_json 0 ends -> already\nh7 host_ended cut 5 -> already\nh7 host_ended exited -> already\nh7 host_ended closed -> already\n";
+
+#[test]
+fn native_text(rt: HostRuntime) -> Result<(), Fail> {
+    let journal = native_calls(rt.alloc()).ok_or("memory was refused")?;
+    assert!(rt; prints(rt.alloc(), &journal, NATIVE_TEXT));
+    Ok(())
+}

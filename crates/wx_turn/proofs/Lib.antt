@@ -1,0 +1,5 @@
+pub mod Histories
+pub mod Numbers
+pub mod Entries
+pub mod TurnSteps
+pub mod SeatSteps
