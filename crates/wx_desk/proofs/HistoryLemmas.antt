@@ -2,6 +2,7 @@
 use Rattle.std.proofs.Common.{◌≡◌, ℕ, ◌+◌, List, [], ◌∷◌, ◌++◌, cond, Bool, true, false, Some, refl, ap, sym, ◌∙◌, append_assoc, arith}
 use Rattle.std.specs.Prelude.{reverse}
 use Rattle.std.proofs.lemmas.List.{append-nil, map-append, length-reverse, reverse-append}
+use Rattle.std.proofs.lemmas.List.Sums.{sum_by-cons}
 use Rattle.std.proofs.lemmas.List.Elements.{All-nil, All-head, All-tail, All-append}
 use Rattle.wx_machine.specs.declared.entries.Who.{Who}
 use Rattle.wx_machine.specs.declared.entries.Call.{Call}
@@ -20,10 +21,14 @@ others_first s others none = All-head (λ (s : Seen). s.own ≡ false) s others 
 pub others_rest : (s : Seen) (others : List Seen) → AreOthers (s ∷ others) → AreOthers others
 others_rest s others none = All-tail (λ (s : Seen). s.own ≡ false) s others none
 
+pub own_in-cons : (s : Seen) (history : List Seen) → own_in (s ∷ history) ≡ cond s.own 1 0 + own_in history
+own_in-cons s history = sum_by-cons (λ (s : Seen). cond s.own 1 0) s history
+
 pub own_in-others : (others history : List Seen) → AreOthers others → own_in (others ++ history) ≡ own_in history
 own_in-others [] history none = refl
 own_in-others (s ∷ others) history none =
-    ap (λ (b : Bool). cond b 1 0 + own_in (others ++ history)) (others_first s others none)
+    own_in-cons s (others ++ history)
+    ∙ ap (λ (b : Bool). cond b 1 0 + own_in (others ++ history)) (others_first s others none)
     ∙ omega (arith, own_in-others others history (others_rest s others none))
 
 module _ {A : Type 0} {as_who : A → Who} where

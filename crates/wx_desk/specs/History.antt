@@ -39,10 +39,6 @@ abbrev pub same_who : Who → Who → Bool
 same_who who (Context c) = is_by who c
 same_who who (Host h) = is_by_host who h
 
--- how many entries of a journal are this one's
-abbrev pub made_by : Who → List Entry → ℕ
-made_by who past = count_by (λ (e : Entry). same_who e.who who) past
-
 -- the history of one who knows that these entries are its own: those that it made
 abbrev pub seen_by : Who → List Entry → List Seen
 seen_by who past = map (λ (e : Entry). record { own = same_who e.who who; entry = e }) past

@@ -8,7 +8,20 @@ ghost use Rattle.wx_host_launch.specs.Turns.{IsInTurn, IsOutTurn};
 ghost use Rattle.wx_machine.specs.declared.entries.Who.TheVariants as Who;
 ghost use Rattle.wx_desk.specs.BrokerDesks.{desk_over};
 ghost use Rattle.wx_host_slot.specs.Journals.{program_of};
-ghost use Rattle.wx_host_slot.specs.Slots.{slot_of, waiting_slot, closing_starter, host_limit, Stands, WasStarted, is_spent_at, turns_left, CameTo, IsServed, IsStarted, HasSaidOrEnded};
+ghost use Rattle.wx_host_slot.specs.Slots.{
+  slot_of,
+  waiting_slot,
+  closing_starter,
+  host_limit,
+  Stands,
+  WasStarted,
+  is_spent_at,
+  turns_left,
+  CameTo,
+  IsServed,
+  IsStarted,
+  HasSaidOrEnded,
+};
 ghost use Rattle.wx_host_slot.specs.Turns.{HostTurn, SaysOrEnds};
 
 use std::alloc::Global;
@@ -56,7 +69,11 @@ impl<I: HostIn, O: HostOut> Model for Child<I, O> {
 
     ghost Value = { ChildState };
 
-    ghost view = { λ child. record { input = I.state child.input; output = O.state child.output; reader = child.reader } };
+    ghost view = { λ child. record {
+      input = I.state child.input;
+      output = O.state child.output;
+      reader = child.reader;
+    } };
 }
 
 impl<P: Starter> Model for HostSlot<P> {
@@ -198,12 +215,16 @@ impl<P: Starter> HostSlot<P> {
     ) -> Result<Served, NoMemory>
         requires legal { IsLegal desk.old.broker.world desk.old.broker.entries }
         requires host { h.0 < length (hosts (reverse desk.old.broker.entries)) }
-        requires stands { Stands (P.state self.old.starter).writing desk.old.broker.world (reverse desk.old.broker.entries) h (slot_of P.state self.old) }
+        requires stands { Stands (P.state self.old.starter).writing desk.old.broker.world
+            (reverse desk.old.broker.entries) h (slot_of P.state self.old) }
         requires unspent { is_spent_at (slot_of P.state self.old) ≡ false }
-        ensures turn { OnOk result (HostTurn (¬ WasStarted (slot_of P.state self.old)) h (reverse desk.old.broker.entries) (reverse desk.new.broker.entries)) }
-        ensures stands { OnOk result (Stands (P.state self.old.starter).writing desk.old.broker.world (reverse desk.new.broker.entries) h (slot_of P.state self.new)) }
+        ensures turn { OnOk result (HostTurn (¬ WasStarted (slot_of P.state self.old)) h
+            (reverse desk.old.broker.entries) (reverse desk.new.broker.entries)) }
+        ensures stands { OnOk result (Stands (P.state self.old.starter).writing desk.old.broker.world
+            (reverse desk.new.broker.entries) h (slot_of P.state self.new)) }
         ensures started { OnOk result (WasStarted (slot_of P.state self.new)) }
-        ensures came { IfOk result (CameTo h (reverse desk.old.broker.entries) (reverse desk.new.broker.entries) (slot_of P.state self.old) (slot_of P.state self.new)) }
+        ensures came { IfOk result (CameTo h (reverse desk.old.broker.entries) (reverse desk.new.broker.entries)
+            (slot_of P.state self.old) (slot_of P.state self.new)) }
         ensures legal { OnOk result (IsLegal desk.old.broker.world desk.new.broker.entries) }
         ensures same_world { OnOk result (desk.new.broker.world ≡ desk.old.broker.world) }
     {
@@ -221,10 +242,13 @@ impl<P: Starter> HostSlot<P> {
     fn start(&mut self, alloc: Global, desk: &mut BrokerDesk, h: HostNo) -> Result<(), NoMemory>
         requires legal { IsLegal desk.old.broker.world desk.old.broker.entries }
         requires host { h.0 < length (hosts (reverse desk.old.broker.entries)) }
-        requires stands { Stands (P.state self.old.starter).writing desk.old.broker.world (reverse desk.old.broker.entries) h (slot_of P.state self.old) }
+        requires stands { Stands (P.state self.old.starter).writing desk.old.broker.world
+            (reverse desk.old.broker.entries) h (slot_of P.state self.old) }
         requires unended { self.old.ended ≡ false }
         requires none { self.old.child ≡ None }
-        ensures started { OnOk result (IsStarted (P.state self.old.starter).writing desk.old.broker.world h (reverse desk.old.broker.entries) (reverse desk.new.broker.entries) (slot_of P.state self.old) (slot_of P.state self.new)) }
+        ensures started { OnOk result (IsStarted (P.state self.old.starter).writing desk.old.broker.world h
+            (reverse desk.old.broker.entries) (reverse desk.new.broker.entries) (slot_of P.state self.old)
+            (slot_of P.state self.new)) }
         ensures legal { OnOk result (IsLegal desk.old.broker.world desk.new.broker.entries) }
         ensures same_world { OnOk result (desk.new.broker.world ≡ desk.old.broker.world) }
     {
@@ -252,11 +276,14 @@ impl<P: Starter> HostSlot<P> {
     fn tell_failed(&mut self, desk: &mut BrokerDesk, h: HostNo) -> Result<(), NoMemory>
         requires legal { IsLegal desk.old.broker.world desk.old.broker.entries }
         requires host { h.0 < length (hosts (reverse desk.old.broker.entries)) }
-        requires stands { Stands (P.state self.old.starter).writing desk.old.broker.world (reverse desk.old.broker.entries) h (slot_of P.state self.old) }
+        requires stands { Stands (P.state self.old.starter).writing desk.old.broker.world
+            (reverse desk.old.broker.entries) h (slot_of P.state self.old) }
         requires unended { self.old.ended ≡ false }
         requires none { self.old.child ≡ None }
         requires failed { self.old.failed ≡ true }
-        ensures started { OnOk result (IsStarted (P.state self.old.starter).writing desk.old.broker.world h (reverse desk.old.broker.entries) (reverse desk.new.broker.entries) (slot_of P.state self.old) (slot_of P.state self.new)) }
+        ensures started { OnOk result (IsStarted (P.state self.old.starter).writing desk.old.broker.world h
+            (reverse desk.old.broker.entries) (reverse desk.new.broker.entries) (slot_of P.state self.old)
+            (slot_of P.state self.new)) }
         ensures legal { OnOk result (IsLegal desk.old.broker.world desk.new.broker.entries) }
         ensures same_world { OnOk result (desk.new.broker.world ≡ desk.old.broker.world) }
     {
@@ -276,10 +303,13 @@ impl<P: Starter> HostSlot<P> {
     ) -> Result<Served, NoMemory>
         requires legal { IsLegal desk.old.broker.world desk.old.broker.entries }
         requires host { h.0 < length (hosts (reverse desk.old.broker.entries)) }
-        requires stands { Stands (P.state self.old.starter).writing desk.old.broker.world (reverse desk.old.broker.entries) h (slot_of P.state self.old) }
+        requires stands { Stands (P.state self.old.starter).writing desk.old.broker.world
+            (reverse desk.old.broker.entries) h (slot_of P.state self.old) }
         requires unended { self.old.ended ≡ false }
         requires none { self.old.child ≡ None }
-        ensures served { IfOk result (λ served. IsServed (P.state self.old.starter).writing desk.old.broker.world h (reverse desk.old.broker.entries) (reverse desk.new.broker.entries) (slot_of P.state self.old) (slot_of P.state self.new) served) }
+        ensures served { IfOk result (λ served. IsServed (P.state self.old.starter).writing desk.old.broker.world h
+            (reverse desk.old.broker.entries) (reverse desk.new.broker.entries) (slot_of P.state self.old)
+            (slot_of P.state self.new) served) }
         ensures legal { OnOk result (IsLegal desk.old.broker.world desk.new.broker.entries) }
         ensures same_world { OnOk result (desk.new.broker.world ≡ desk.old.broker.world) }
     {
@@ -294,11 +324,14 @@ impl<P: Starter> HostSlot<P> {
     fn take(&mut self, desk: &mut BrokerDesk, h: HostNo) -> Result<Served, NoMemory>
         requires legal { IsLegal desk.old.broker.world desk.old.broker.entries }
         requires host { h.0 < length (hosts (reverse desk.old.broker.entries)) }
-        requires stands { Stands (P.state self.old.starter).writing desk.old.broker.world (reverse desk.old.broker.entries) h (slot_of P.state self.old) }
+        requires stands { Stands (P.state self.old.starter).writing desk.old.broker.world
+            (reverse desk.old.broker.entries) h (slot_of P.state self.old) }
         requires unended { self.old.ended ≡ false }
         requires started { IsSome self.old.child }
         requires room { self.old.made < host_limit }
-        ensures served { IfOk result (λ served. IsServed (P.state self.old.starter).writing desk.old.broker.world h (reverse desk.old.broker.entries) (reverse desk.new.broker.entries) (slot_of P.state self.old) (slot_of P.state self.new) served) }
+        ensures served { IfOk result (λ served. IsServed (P.state self.old.starter).writing desk.old.broker.world h
+            (reverse desk.old.broker.entries) (reverse desk.new.broker.entries) (slot_of P.state self.old)
+            (slot_of P.state self.new) served) }
         ensures legal { OnOk result (IsLegal desk.old.broker.world desk.new.broker.entries) }
         ensures same_world { OnOk result (desk.new.broker.world ≡ desk.old.broker.world) }
     {
@@ -322,18 +355,20 @@ impl<P: Starter> HostSlot<P> {
         }
     }
 
-    /// The turn of host h where nobody else can do anything: what its child writes is read up to the end of a frame, and
-    /// said; or the host ends.
+    /// The turn of host h where nobody else can do anything: what its child writes is read up to the end of a frame,
+    /// and said; or the host ends.
     pub fn hear(&mut self, desk: &mut BrokerDesk, h: HostNo) -> Result<(), NoMemory>
         requires legal { IsLegal desk.old.broker.world desk.old.broker.entries }
         requires host { h.0 < length (hosts (reverse desk.old.broker.entries)) }
-        requires stands { Stands (P.state self.old.starter).writing desk.old.broker.world (reverse desk.old.broker.entries) h (slot_of P.state self.old) }
+        requires stands { Stands (P.state self.old.starter).writing desk.old.broker.world
+            (reverse desk.old.broker.entries) h (slot_of P.state self.old) }
         requires unspent { is_spent_at (slot_of P.state self.old) ≡ false }
         requires unended { self.old.ended ≡ false }
         requires started { WasStarted (slot_of P.state self.old) }
         requires none_to_take { is_host_ready (reverse desk.old.broker.entries) h ≡ false }
         ensures turn { OnOk result (SaysOrEnds h (reverse desk.old.broker.entries) (reverse desk.new.broker.entries)) }
-        ensures stands { OnOk result (Stands (P.state self.old.starter).writing desk.old.broker.world (reverse desk.new.broker.entries) h (slot_of P.state self.new)) }
+        ensures stands { OnOk result (Stands (P.state self.old.starter).writing desk.old.broker.world
+            (reverse desk.new.broker.entries) h (slot_of P.state self.new)) }
         ensures started { OnOk result (WasStarted (slot_of P.state self.new)) }
         ensures less { OnOk result (turns_left (slot_of P.state self.new) < turns_left (slot_of P.state self.old)) }
         ensures legal { OnOk result (IsLegal desk.old.broker.world desk.new.broker.entries) }

@@ -13,6 +13,7 @@ use Rattle.wx_script.specs.Carries.{MayCome, IsAskedOf, AskedOf}
 use Rattle.wx_script.specs.Ends.{entries_by}
 use Rattle.wx_desk.specs.History.{seen_by, own_in}
 use Rattle.wx_endpoint.specs.History.{place_in, MayStand, CarriesOn}
+use Rattle.wx_desk.proofs.HistoryLemmas.{own_in-cons}
 use Rattle.wx_desk.proofs.OverLemmas.{entries_in-seen_by}
 use Rattle.wx_run.specs.Round.{Follows}
 
@@ -22,8 +23,9 @@ place_in-seen_by s c [] = refl
 place_in-seen_by s c (e ∷ past) = ap (λ p. behind_entry s c p e) (place_in-seen_by s c past)
 
 pub own_in-seen_by : (c : ContextNo) (past : List Entry) → own_in (seen_by (ByContext c) past) ≡ entries_by c past
-own_in-seen_by (ByContext c) [] = refl
-own_in-seen_by (ByContext c) (e ∷ past) = ap (λ n. cond (is_by e.who c) 1 0 + n) (own_in-seen_by (ByContext c) past)
+own_in-seen_by c [] = refl
+own_in-seen_by c (e ∷ past) =
+    own_in-cons _ (seen_by (ByContext c) past) ∙ ap (λ n. cond (is_by e.who c) 1 0 + n) (own_in-seen_by c past)
 
 -- what an endpoint's script asks for, where its number is known
 asked_of : (scripts : List (List Command)) (s : List Command) (past : List Entry) (who : Who) (c : ContextNo) (e : Entry)

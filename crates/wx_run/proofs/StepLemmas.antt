@@ -38,7 +38,7 @@ ready_sound world c p past ready = record {
 pub ready_behind : (world : WorldLists) (c : ContextNo) (p : CursorState) (past : List Entry) → IsReady world c p past → StandsBehind p (desk_of c world past)
 ready_behind world c p past ready = record {
   place = ap (λ (p : CursorState). p.place) ready.behind ∙ sym (place_in-seen_by p.script c past);
-  made = ap (λ (p : CursorState). p.made) ready.behind ∙ sym (own_in-seen_by (ByContext c) past);
+  made = ap (λ (p : CursorState). p.made) ready.behind ∙ sym (own_in-seen_by c past);
   carries = ready.carries;
 }
 
@@ -47,7 +47,7 @@ cursor_is : (c : ContextNo) (world : WorldLists) (past : List Entry) (q : Cursor
 cursor_is c world past q stands = λ i. record {
   script = q.script;
   place = (stands.place ∙ place_in-seen_by q.script c past) i;
-  made = (stands.made ∙ own_in-seen_by (ByContext c) past) i;
+  made = (stands.made ∙ own_in-seen_by c past) i;
 }
 
 -- no entry came in
