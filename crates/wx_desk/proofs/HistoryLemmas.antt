@@ -54,7 +54,7 @@ module _ {A : Type 0} {as_who : A → Who} where
     same_alone = second.same_alone ∙ first.same_alone;
   }
 
-  pub none_then_one : (a b c : DeskState A as_who) (call : Call) (answer : Answer) → MakesNone a b → MakesOne b c call answer → MakesOne a c call answer
+  abbrev pub none_then_one : (a b c : DeskState A as_who) (call : Call) (answer : Answer) → MakesNone a b → MakesOne b c call answer → MakesOne a c call answer
   none_then_one a b c call answer none one =
       record { between = one.between; others = none_twice a b one.between none one.others; made = one.made }
 

@@ -81,7 +81,7 @@ module _ {A : Type 0} (as_who : A → Who) (who : A) (old new : BrokerState) whe
       ∙ ap (λ es. D old.world (seen_by (as_who who) es)) (past_after (as_who who) old new call answer appends)
       ∙ ap (λ b. D old.world (S b ∷ seen_by (as_who who) (reverse old.entries))) (same_who-own (as_who who))
 
-  pub makes_one : (call : Call) (answer : Answer) → Appends old new (as_who who) call answer → MakesOne (desk_over as_who who old) (desk_over as_who who new) call answer
+  abbrev pub makes_one : (call : Call) (answer : Answer) → Appends old new (as_who who) call answer → MakesOne (desk_over as_who who old) (desk_over as_who who new) call answer
   makes_one call answer appends = record { between = desk_over as_who who old; others = makes_none (desk_over as_who who old); made = desk_after call answer appends }
 
   pub made_one : {E : Type 0} (call : Call) (r : Result Answer E) → IfOk r (λ answer. Appends old new (as_who who) call answer)

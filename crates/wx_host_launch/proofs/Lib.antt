@@ -7,3 +7,4 @@ pub mod TurnLemmas
 pub mod DeskLemmas
 pub mod BrokerLemmas
 pub mod KeepsLemmas
+pub mod KeptLemmas

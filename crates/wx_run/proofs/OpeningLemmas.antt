@@ -1,13 +1,14 @@
 -- One more endpoint of the opening.
 use Rattle.std.proofs.Common.{◌≡◌, ◌≢◌, ℕ, ◌+◌, ◌<◌, ◌≤◌, length, take, cond, arith, Bool, true, false, List, [], ◌∷◌, ◌++◌, Some, None, refl, sym, ap, ◌∙◌, subst, append_assoc, append-nil}
 use Rattle.std.specs.declared.option.Option.{Option}
-use Rattle.std.specs.Prelude.{slice_get, reverse, ◌&&◌, ◌||◌, not, nat_le, option_to_list}
+use Rattle.std.specs.Prelude.{Result, Ok, Err, IfOk, OnErr, slice_get, reverse, ◌&&◌, ◌||◌, not, nat_le, option_to_list}
 use Rattle.std.specs.Option.{option_map, option_or}
 use Rattle.std.proofs.lemmas.Bool.{eq-eqb}
 use Rattle.std.proofs.lemmas.List.{reverse-append, length-map}
 use Rattle.std.proofs.lemmas.Option.{slice_get-map}
 use Rattle.std.proofs.Math.Seq.{take-length}
 use Rattle.wx_id.specs.declared.numbers.ContextNo.{ContextNo}
+use Rattle.wx_id.specs.declared.numbers.EntryNo.{EntryNo}
 use Rattle.wx_id.specs.declared.numbers.HostNo.{HostNo}
 use Rattle.wx_external.specs.World.{WorldLists}
 use Rattle.wx_context.specs.declared.contexts.Context.{Context}
@@ -21,7 +22,9 @@ use Rattle.wx_machine.specs.Answers.{IsLegal, FollowsMachine, answer_after}
 use Rattle.wx_machine.specs.Each.{EachAfter}
 use Rattle.wx_machine.specs.Hosts.{hosts, is_by_host}
 use Rattle.wx_broker.specs.State.{BrokerState}
-use Rattle.wx_broker.specs.Steps.{Appends}
+use Rattle.wx_broker.specs.Steps.{Appends, Stays}
+use Rattle.wx_desk.specs.BrokerDesks.{has_lent}
+use Rattle.wx_desk.proofs.OverLemmas.{lent_later, lent_same}
 use Rattle.wx_laws.proofs.Keeping.{legal_keeps_laws}
 use Rattle.wx_host_launch.specs.Records.{Writing}
 use Rattle.wx_host_slot.specs.Journals.{entries_of}
@@ -183,6 +186,12 @@ ready_opened old new c s x legal below appends =
     (subst (λ j. IsReady old.world c (cursor_at_start s) j) (sym leaves.made)
     (subst (λ c. IsReady old.world c (cursor_at_start s) (entered (numbered (contexts (reverse old.entries))) x ∷ reverse old.entries)) (sym leaves.numbered_is)
     (ready_entered old.world (reverse old.entries) s x legal below leaves.follows)))
+
+-- what the desk lends stands on
+pub lent_entered : {E : Type 0} (old new : BrokerState) (lent : Option EntryNo) (x : Context) (r : Result ContextNo E) → IfOk r (λ c. Appends old new (ByContext c) (call.Enter x) (answer.Entered c)) → OnErr r (Stays old new) → has_lent old lent ≡ true
+    → has_lent new lent ≡ true
+lent_entered old new lent x (Ok c) appends stays is = lent_later (ByContext c) old new lent (call.Enter x) (answer.Entered c) appends is
+lent_entered old new lent x (Err e) appends stays is = lent_same old new lent stays is
 
 -- ---- one more endpoint
 

@@ -12,8 +12,8 @@ returns-then-not-ready-clause-taken c = finds_none c.args.self.now (sym c.if-not
 pub take-requires : goal.take-requires
 take-requires c = came_in c.args.self.now c.requires.sound
 
-pub invariant_of-self : goal.invariant_of-self
-invariant_of-self c = record { kept = lends_on c.args.self.now c.take.new.self Take c.take.result c.take.ensures.ok c.take.ensures.err }
+pub invariant_of-self-2 : goal.invariant_of-self-2
+invariant_of-self-2 c = record { kept = lends_on c.args.self.now c.take.new.self Take c.take.result c.take.ensures.ok c.take.ensures.err }
 
 pub returns-clause-taken : goal.returns-clause-taken
 returns-clause-taken c = takes_ready c.args.self.now c.take.new.self _ (sym c.if-not-ready.ensures.pending) c.in_ok-take.ensures.ok
