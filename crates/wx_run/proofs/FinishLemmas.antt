@@ -2,7 +2,7 @@
 use Rattle.std.proofs.Common.{◌≡◌, ℕ, ◌+◌, ◌-◌, ◌^◌, ◌≤◌, ◌<◌, length, map, arith, List, [], ◌∷◌, ◌++◌, refl, sym, ap, ◌∙◌, subst, append_assoc, append-nil}
 use Rattle.std.specs.declared.option.Option.{Option}
 use Rattle.std.specs.Prelude.{min}
-use Rattle.std.proofs.Math.Nat.{min-eq_left}
+use Rattle.std.proofs.Math.Nat.{min-eq_left, min-le_right}
 use Rattle.wx_external.specs.World.{WorldLists}
 use Rattle.wx_machine.specs.declared.entries.Entry.{Entry}
 use Rattle.wx_host_launch.specs.Records.{HostRecord, Writing, StarterState, plus, faults_in, faults_of, taking_over}
@@ -45,7 +45,9 @@ all_finished start now slots (slot ∷ left) count so none = absurd (let counted
 -- ---- of slots of which nothing else was started
 
 capped : (n : ℕ) → plus 0 (min n (2 ^ 64 - 1)) ≡ min n (2 ^ 64 - 1)
-capped n = min-eq_left (omega arith)
+capped n =
+    let sum : 0 + min n (2 ^ 64 - 1) ≡ min n (2 ^ 64 - 1) = omega arith in
+    ap (λ m. min m (2 ^ 64 - 1)) sum ∙ min-eq_left (min-le_right n (2 ^ 64 - 1))
 
 -- a slot that took nothing over hands over the count of its own record
 own_faults : (slot : SlotState) (count : ℕ) → slot.starter.taken_over ≡ 0 → plus count (faults_of (closing_starter slot)) ≡ plus count (faults_in (closing_record slot))

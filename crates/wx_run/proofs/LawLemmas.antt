@@ -34,7 +34,9 @@ unspent_from (script ∷ scripts) n past ended =
 
 -- where every script has ended no endpoint is spent
 done_unspent : (scripts : List (List Command)) (past : List Entry) → IsDone scripts past → spent_of scripts past ≡ None
-done_unspent scripts past done = unspent_from scripts 0 past done
+done_unspent scripts past done = unspent_from scripts 0 past (λ i script at.
+    let same : 0 + i ≡ i = omega arith in
+    ap (λ m. script_has_ended script (numbered m) past) same ∙ done i script at)
 
 hosts_unspent_from : (count n : ℕ) (past : List Entry) → ((h : HostNo) → h.0 < n + count → has_ended past h ≡ true) → spent_host_from count n past ≡ None
 hosts_unspent_from zero n past ended = refl
