@@ -1,0 +1,6 @@
+use Rattle.std.proofs.Common.{take, ◌≤◌}
+use Rattle.wx_mailbox.specs.Mailboxes.{EachHas, AreRoomier}
+use Rattle.wx_mailbox.proofs.mailboxes.make_room.Given as goal
+
+abbrev pub invariant-loop-c : goal.invariant-loop-c
+invariant-loop-c l = record { kept : AreRoomier l.initial.boxes.items l.boxes.items; room : EachHas (λ b. l.n ≤ b.room) (take l.c-index l.to) l.boxes.items }

@@ -1,0 +1,7 @@
+use Rattle.std.proofs.Common.{take}
+use Rattle.wx_mailbox.specs.Mailbox.{paid}
+use Rattle.wx_mailbox.specs.Mailboxes.{Changed}
+use Rattle.wx_mailbox.proofs.mailboxes.pay.Given as goal
+
+abbrev pub invariant-loop-c : goal.invariant-loop-c
+invariant-loop-c l = Changed (paid l.e) (take l.c-index l.to) l.initial.boxes.items l.boxes.items

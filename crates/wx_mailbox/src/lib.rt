@@ -1,0 +1,8 @@
+//! The mailbox of one context: its events in order, with room that is kept for what may still come. A call that tells
+//! of an end takes no memory, since the place was taken when the channel was opened or the request asked.
+#![tactic(auto)]
+
+mod mailbox;
+pub mod mailboxes;
+
+pub use mailbox::Mailbox;
