@@ -1,3 +1,5 @@
 pub mod ContextLemmas
 pub mod HostNameLemmas
 pub mod IdLemmas
+pub mod ListLemmas
+pub mod ByContextLemmas

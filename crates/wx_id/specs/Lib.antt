@@ -2,3 +2,4 @@ pub mod Contexts
 pub mod HostNames
 pub mod Ids
 pub mod Numbers
+pub mod ByContext

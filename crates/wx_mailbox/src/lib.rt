@@ -4,5 +4,7 @@
 
 mod mailbox;
 pub mod mailboxes;
+#[cfg(test)]
+mod tests;
 
 pub use mailbox::Mailbox;

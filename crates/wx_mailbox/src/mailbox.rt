@@ -88,9 +88,7 @@ impl Mailbox {
         let Some(wanted) = n.checked_add(self.owed) else {
             return Err(NoMemory);
         };
-        if self.queue.reserve(wanted).is_err() {
-            return Err(NoMemory);
-        }
+        self.queue.reserve(wanted)?;
         self.spare = n;
         Ok(())
     }
@@ -130,7 +128,7 @@ impl Mailbox {
         requires { 0 < self.old.owed }
         ensures { self.new ≡ spec.paid e self.old }
     {
-        self.owed -= 1;
+        self.forgive();
         self.queue.push_back_reserved(e);
     }
 
@@ -151,9 +149,7 @@ impl Mailbox {
         let Some(wanted) = n.checked_add(self.spare + self.owed) else {
             return Err(NoMemory);
         };
-        if self.queue.reserve(wanted).is_err() {
-            return Err(NoMemory);
-        }
+        self.queue.reserve(wanted)?;
         Ok(())
     }
 

@@ -3,7 +3,9 @@
 ghost use Rattle.std.specs.Prelude.{◌≡◌, ℕ, ◌<◌, ◌≤◌, length, IsTrue, OnOk, slice_get};
 ghost use Rattle.std.specs.Option.{IsSomeAnd};
 ghost use Rattle.wx_mailbox.specs.Mailbox.{told, owing, connected, paid, forgiven};
-ghost use Rattle.wx_mailbox.specs.Mailboxes.{are_apart, EachHas, Changed, AreRoomier};
+ghost use Rattle.wx_id.specs.Contexts.{are_distinct};
+ghost use Rattle.wx_id.specs.ByContext.{EachHas, Changed};
+ghost use Rattle.wx_mailbox.specs.Mailboxes.{AreRoomier};
 
 use crate::mailbox::Mailbox;
 use wx_id::{ContextNo, Event, NoMemory};
@@ -32,7 +34,7 @@ pub fn make_room(boxes: &mut Vec<Mailbox>, to: &[ContextNo], n: usize) -> Result
 
 /// Tells each of these an event, for which there is a free place.
 pub fn tell(boxes: &mut Vec<Mailbox>, to: &[ContextNo], e: Event)
-    requires apart { IsTrue (are_apart to.now) }
+    requires distinct { IsTrue (are_distinct to.now) }
     requires room { EachHas (λ b. 0 < b.room) to.now boxes.old.items }
     ensures { Changed (told e) to.now boxes.old.items boxes.new.items }
 {
@@ -43,7 +45,7 @@ pub fn tell(boxes: &mut Vec<Mailbox>, to: &[ContextNo], e: Event)
 
 /// Tells each of these of a channel and keeps a place for its end; there are two free places.
 pub fn connect(boxes: &mut Vec<Mailbox>, to: &[ContextNo], e: Event)
-    requires apart { IsTrue (are_apart to.now) }
+    requires distinct { IsTrue (are_distinct to.now) }
     requires room { EachHas (λ b. 1 < b.room) to.now boxes.old.items }
     ensures { Changed (connected e) to.now boxes.old.items boxes.new.items }
 {
@@ -56,7 +58,7 @@ pub fn connect(boxes: &mut Vec<Mailbox>, to: &[ContextNo], e: Event)
 
 /// Tells each of these an event, for which it kept a place.
 pub fn pay(boxes: &mut Vec<Mailbox>, to: &[ContextNo], e: Event)
-    requires apart { IsTrue (are_apart to.now) }
+    requires distinct { IsTrue (are_distinct to.now) }
     requires owed { EachHas (λ b. 0 < b.owed) to.now boxes.old.items }
     ensures { Changed (paid e) to.now boxes.old.items boxes.new.items }
 {
@@ -67,7 +69,7 @@ pub fn pay(boxes: &mut Vec<Mailbox>, to: &[ContextNo], e: Event)
 
 /// Each of these gives up a place that it kept.
 pub fn forgive(boxes: &mut Vec<Mailbox>, to: &[ContextNo])
-    requires apart { IsTrue (are_apart to.now) }
+    requires distinct { IsTrue (are_distinct to.now) }
     requires owed { EachHas (λ b. 0 < b.owed) to.now boxes.old.items }
     ensures { Changed forgiven to.now boxes.old.items boxes.new.items }
 {
@@ -78,7 +80,7 @@ pub fn forgive(boxes: &mut Vec<Mailbox>, to: &[ContextNo])
 
 /// Each of these keeps a free place for an event that is owed.
 pub fn keep(boxes: &mut Vec<Mailbox>, to: &[ContextNo])
-    requires apart { IsTrue (are_apart to.now) }
+    requires distinct { IsTrue (are_distinct to.now) }
     requires room { EachHas (λ b. 0 < b.room) to.now boxes.old.items }
     ensures { Changed owing to.now boxes.old.items boxes.new.items }
 {

@@ -1,6 +1,6 @@
 use Rattle.std.proofs.Common.{take}
 use Rattle.wx_mailbox.specs.Mailbox.{forgiven}
-use Rattle.wx_mailbox.specs.Mailboxes.{Changed}
+use Rattle.wx_id.specs.ByContext.{Changed}
 use Rattle.wx_mailbox.proofs.mailboxes.forgive.Given as goal
 
 abbrev pub invariant-loop-c : goal.invariant-loop-c

@@ -1,6 +1,7 @@
 use Rattle.std.proofs.Common.{◌<◌, ◌≤◌, get_or, take, rules}
 use Rattle.std.proofs.lemmas.List.{take_more}
-use Rattle.wx_mailbox.proofs.MailboxesLater.{roomier_self, roomier_then, room_stays, room_more, there_still, each_within}
+use Rattle.wx_mailbox.proofs.MailboxesLater.{roomier_self, roomier_then, room_stays, room_more, there_still}
+use Rattle.wx_id.proofs.ByContextLemmas.{each_within}
 use Rattle.wx_mailbox.proofs.mailboxes.make_room.Goals as goal
 
 pub loop-c-init : goal.loop-c-init

@@ -1,5 +1,6 @@
 use Rattle.std.proofs.Common.{take, ◌≤◌}
-use Rattle.wx_mailbox.specs.Mailboxes.{EachHas, AreRoomier}
+use Rattle.wx_id.specs.ByContext.{EachHas}
+use Rattle.wx_mailbox.specs.Mailboxes.{AreRoomier}
 use Rattle.wx_mailbox.proofs.mailboxes.make_room.Given as goal
 
 abbrev pub invariant-loop-c : goal.invariant-loop-c

@@ -1,6 +1,6 @@
 use Rattle.std.proofs.Common.{◌<◌, rules}
 use Rattle.wx_mailbox.specs.Mailbox.{told}
-use Rattle.wx_mailbox.proofs.MailboxesLater.{changed_none, comes_within, comes_with, step}
+use Rattle.wx_id.proofs.ByContextLemmas.{changed_none, comes_within, comes_with, step}
 use Rattle.wx_mailbox.proofs.mailboxes.tell.Goals as goal
 
 pub loop-c-init : goal.loop-c-init
@@ -8,13 +8,13 @@ loop-c-init c = changed_none (told c.args.e) c.args.boxes.now.items
 
 pub index_mut-requires : goal.index_mut-requires
 index_mut-requires c =
-    let h = comes_within (told c.args.e) (λ b. 0 < b.room) c.args.to.now c.loop-c.c-index (record { 0 = 0 }) c.args.boxes.now.items c.loop-c.boxes.items c.requires.apart c.requires.room c.loop-c.invariant c.loop-c-test.true in
+    let h = comes_within (told c.args.e) (λ b. 0 < b.room) c.args.to.now c.loop-c.c-index (record { 0 = 0 }) c.args.boxes.now.items c.loop-c.boxes.items c.requires.distinct c.requires.room c.loop-c.invariant c.loop-c-test.true in
     search rules
 
 pub tell-requires : goal.tell-requires
 tell-requires c =
-    comes_with (told c.args.e) (λ b. 0 < b.room) c.args.to.now c.loop-c.c-index (record { 0 = 0 }) c.args.boxes.now.items c.loop-c.boxes.items c.index_mut.result.now c.requires.apart c.requires.room c.loop-c.invariant c.loop-c-test.true c.index_mut.ensures.value
+    comes_with (told c.args.e) (λ b. 0 < b.room) c.args.to.now c.loop-c.c-index (record { 0 = 0 }) c.args.boxes.now.items c.loop-c.boxes.items c.index_mut.result.now c.requires.distinct c.requires.room c.loop-c.invariant c.loop-c-test.true c.index_mut.ensures.value
 
 pub loop-c-preserved : goal.loop-c-preserved
 loop-c-preserved c =
-    step (told c.args.e) (λ b. 0 < b.room) c.args.to.now c.loop-c.c-index (record { 0 = 0 }) c.args.boxes.now.items c.loop-c.boxes.items c.index_mut.result.now c.tell.new.self c.requires.apart c.requires.room c.loop-c.invariant c.loop-c-test.true c.index_mut.ensures.value c.tell.ensures
+    step (told c.args.e) (λ b. 0 < b.room) c.args.to.now c.loop-c.c-index (record { 0 = 0 }) c.args.boxes.now.items c.loop-c.boxes.items c.index_mut.result.now c.tell.new.self c.requires.distinct c.requires.room c.loop-c.invariant c.loop-c-test.true c.index_mut.ensures.value c.tell.ensures
