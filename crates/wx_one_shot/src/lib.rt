@@ -5,4 +5,3 @@
 mod requests;
 
 pub use requests::{Requests, Standing};
-
