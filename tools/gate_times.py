@@ -1,33 +1,58 @@
 #!/usr/bin/env python3
-"""Runs the gate and says how many processor minutes each crate took.
+"""Says how many processor minutes the gate took, crate by crate, and writes the table of docs/GATE.md.
 
-    tools/gate_times.py [LOG]
+    tools/gate_times.py [LOG]          runs `rt ci` at the top of the repository, with what it prints in LOG (gate.log in
+                                       the system's folder for temporary files, if none is named), and ends with its status
+    tools/gate_times.py watch [PID]    watches an `rt ci` that somebody else runs: the one with this process id, or the one
+                                       that runs in this repository, or the next that is started there
+    tools/gate_times.py table          writes the table anew from what was last measured, with the lines and numbers as
+                                       the files have them now
 
-Runs `rt ci` at the top of the repository, writes what it prints to LOG (gate.log in the system's folder for
-temporary files, if none is named), and every other second reads from /proc what the checker's processes have used.
-Prints a line for each crate, the longest first: its proof, its tests (a crate with tests is proved once more with
-them) and its must-fail edits. A process that lives for less than two seconds may be missed. With nothing kept on
-the machine the times are those from nothing. Ends with the gate's status.
+The first two write the table when the run ends, or when they are interrupted. Every second they read from /proc what the
+checker's processes have used: a crate's proof, its tests (a crate with tests is proved once more with them), the seed of
+its must-fail edits (the crate proved once more, for them to begin with) and the edits. What a process used in its last
+second is missed; what the whole run used is taken from the run's own process, and the difference is told. A run that is
+watched from its middle on tells the whole all the same. With nothing kept on the machine the times are those from nothing.
 """
 import collections
+import json
 import os
 import re
+import signal
 import subprocess
 import sys
 import tempfile
 import time
 
 TOP = os.path.dirname(os.path.dirname(os.path.abspath(__file__)))
+PAGE = os.path.join(TOP, "docs", "GATE.md")
+STATE = os.path.join(tempfile.gettempdir(), "gate_times.json")
+BEGIN, END = "<!-- the table begins -->", "<!-- the table ends -->"
+PARTS = ("proof", "tests", "seed", "edits")
 TICKS = os.sysconf("SC_CLK_TCK")
+
+
+def words_of(pid):
+    with open(f"/proc/{pid}/cmdline") as f:
+        return f.read().split("\0")
+
+
+def stat_of(pid):
+    """The fields of a process's stat after its name: 1 is the parent, 11 to 14 the times, 19 the start."""
+    with open(f"/proc/{pid}/stat") as f:
+        return f.read().rsplit(")", 1)[1].split()
+
+
+def pids():
+    return [int(name) for name in os.listdir("/proc") if name.isdigit()]
 
 
 def below(top):
     """The processes that descend from this one, by number."""
     children = collections.defaultdict(list)
-    for pid in filter(str.isdigit, os.listdir("/proc")):
+    for pid in pids():
         try:
-            with open(f"/proc/{pid}/stat") as f:
-                children[int(f.read().rsplit(")", 1)[1].split()[1])].append(int(pid))
+            children[int(stat_of(pid)[1])].append(pid)
         except OSError:
             pass
     found, left = [], [top]
@@ -37,39 +62,209 @@ def below(top):
     return found
 
 
+def part_of(words, folder):
+    """Which part of the gate a process of the checker with these words works on, in this folder."""
+    if not re.match(r".*/rt-edit-", folder):
+        return "tests" if "--test" in words else "proof"
+    kept = words[words.index("--incremental") + 1] if "--incremental" in words else ""
+    return "seed" if os.path.basename(kept) == "seed" else "edits"
+
+
 def look(pid, used):
-    """Notes what a process of the checker has used so far."""
+    """Notes what a process has used so far, where it is one of the checker."""
     try:
-        with open(f"/proc/{pid}/cmdline") as f:
-            words = f.read().split("\0")
-        with open(f"/proc/{pid}/stat") as f:
-            stat = f.read().rsplit(")", 1)[1].split()
-        folder = os.readlink(f"/proc/{pid}/cwd")
+        words, stat, folder = words_of(pid), stat_of(pid), os.readlink(f"/proc/{pid}/cwd")
     except OSError:
         return
     if "--crate-name" in words:
         crate = words[words.index("--crate-name") + 1]
-        part = "edits" if re.match(r".*/rt-edit-", folder) else "tests" if "--test" in words else "proof"
-        used[pid, stat[19]] = (crate, part, (int(stat[11]) + int(stat[12])) / TICKS / 60)
+        minutes = (int(stat[11]) + int(stat[12])) / TICKS / 60
+        used[f"{pid} {stat[19]}"] = [crate, part_of(words, folder), minutes]
+
+
+def whole(gate, under):
+    """The processor minutes of the run so far: its own, those of its children that have ended, and those that live."""
+    ticks = 0
+    for pid in under:
+        try:
+            stat = stat_of(pid)
+            ticks += sum(map(int, stat[11:15]))
+        except OSError:
+            pass
+    return ticks / TICKS / 60
+
+
+def is_gate(pid):
+    """Whether the process is an `rt ci` in this repository."""
+    try:
+        words, folder = words_of(pid), os.readlink(f"/proc/{pid}/cwd")
+    except OSError:
+        return False
+    at = next((n for n, word in enumerate(words) if os.path.basename(word) == "rt"), None)
+    return at is not None and words[at + 1 : at + 2] == ["ci"] and os.path.realpath(folder) == os.path.realpath(TOP)
+
+
+def found_gate():
+    """The `rt ci` of this repository, once there is one: the uppermost of its processes."""
+    while True:
+        gates = [pid for pid in pids() if is_gate(pid)]
+        for pid in gates:
+            try:
+                if int(stat_of(pid)[1]) not in gates:
+                    return pid
+            except OSError:
+                pass
+        time.sleep(1)
+
+
+def begun_at(pid):
+    """When the process was started, in seconds of the clock."""
+    with open("/proc/uptime") as f:
+        up = float(f.read().split()[0])
+    return time.time() - up + int(stat_of(pid)[19]) / TICKS
+
+
+def save(measured):
+    with open(STATE + ".new", "w") as f:
+        json.dump(measured, f)
+    os.replace(STATE + ".new", STATE)
+
+
+def watch(gate, is_over):
+    """Notes what the run's processes use until it is over, and then writes the table."""
+    begun, used = begun_at(gate), {}
+    measured = {"used": used, "whole": 0, "wall": 0, "over": False}
+    commit = subprocess.run(["git", "rev-parse", "--short", "HEAD"], cwd=TOP, capture_output=True, text=True).stdout.strip()
+    measured["commit"] = commit or "(no commit)"
+    measured["processors"] = os.cpu_count()
+    rounds = 0
+    while not is_over():
+        under = below(gate)
+        for pid in under:
+            look(pid, used)
+        measured["whole"] = max(measured["whole"], whole(gate, under))
+        measured["wall"] = (time.time() - begun) / 60
+        rounds += 1
+        if rounds % 30 == 1:
+            save(measured)
+        time.sleep(1)
+    measured["over"] = True
+    save(measured)
+
+
+def is_gone(gate):
+    """Whether the process has ended: it is no more, or only waits to be collected."""
+    try:
+        return stat_of(gate)[0] == "Z"
+    except OSError:
+        return True
+
+
+def crates():
+    """The crates of the repository in their order, each after those that it stands on."""
+    with open(os.path.join(TOP, "crates.txt")) as f:
+        lines = [line for line in f if ":" in line and not line.startswith("#")]
+    return [line.split(":")[0].split()[0] for line in lines]
+
+
+def texts(crate, folder, ending):
+    """The files below a folder of the crate, with their texts."""
+    found = {}
+    for at, folders, names in os.walk(os.path.join(TOP, "crates", crate, folder)):
+        for name in names:
+            if name.endswith(ending):
+                with open(os.path.join(at, name), encoding="utf-8", errors="replace") as f:
+                    found[os.path.join(at, name)] = f.read()
+    return found
+
+
+def counts(crate):
+    """Lines of code, of definitions and of proofs; how many tests and edits."""
+    source = texts(crate, "src", ".rt")
+    every = "\n".join(source.values())
+    tested = set(re.findall(r"#\[cfg\(test\)\]\s*(?:pub(?:\(crate\))? )?mod (\w+);", every))
+    lines = lambda them: sum(text.count("\n") for text in them)
+    code = lines(text for path, text in source.items() if os.path.splitext(os.path.basename(path))[0] not in tested)
+    rows = sum(len(re.findall(r"(?m)^row ", text)) for text in texts(crate, "data", "").values())
+    return {
+        "code": code,
+        "definitions": lines(texts(crate, "specs", ".antt").values()),
+        "proofs": lines(texts(crate, "proofs", ".antt").values()),
+        "tests": len(re.findall(r"(?m)^\s*#\[test\]", every)) + rows,
+        "edits": len(texts(crate, "must-fail", ".edit")),
+    }
+
+
+COUNTS = ("code", "definitions", "proofs", "tests", "edits")
+
+
+def table(measured):
+    """The lines of the table."""
+    minutes = collections.defaultdict(collections.Counter)
+    for crate, part, so_far in measured.get("used", {}).values():
+        minutes[crate][part] += so_far
+    number = lambda it: f"{it:.1f}" if it >= 0.05 else "-"
+    heads = ["crate", *COUNTS, "proof", "tests", "seed", "edits", "in all"]
+    out = ["| " + " | ".join(heads) + " |", "|---|" + "---:|" * (len(heads) - 1)]
+    sums, total = collections.Counter(), collections.Counter()
+    for crate in crates():
+        count = counts(crate)
+        sums.update(count)
+        total.update(minutes[crate])
+        cells = [f"`{crate}`", *(f"{count[it]:,}" for it in COUNTS), *(number(minutes[crate][it]) for it in PARTS)]
+        out.append("| " + " | ".join([*cells, number(sum(minutes[crate].values()))]) + " |")
+    seen = sum(total.values())
+    cells = ["**in all**", *(f"{sums[it]:,}" for it in COUNTS), *(number(total[it]) for it in PARTS), number(seen)]
+    out.append("| " + " | ".join(cells) + " |")
+    if not measured:
+        return ["Nothing was measured yet.", "", *out]
+    end = "" if measured["over"] else " It had not ended when this was written."
+    rest = max(0, measured["whole"] - seen)
+    said = (
+        f"The run at commit {measured['commit']} took {measured['whole']:.0f} processor minutes on "
+        f"{measured['processors']} processors, and {measured['wall']:.0f} minutes of the clock.{end} "
+        f"Of these, {rest:.0f} are of no line below: compiling, running tests and programs, and the last second of each check."
+    )
+    return [said, "", *out]
+
+
+def write_table():
+    """Puts the table into docs/GATE.md, in place of the one that stands there."""
+    measured = {}
+    if os.path.exists(STATE):
+        with open(STATE) as f:
+            measured = json.load(f)
+    with open(PAGE, encoding="utf-8") as f:
+        page = f.read()
+    before, after = page.split(BEGIN)[0], page.split(END)[1]
+    with open(PAGE, "w", encoding="utf-8") as f:
+        f.write("\n".join([before + BEGIN, "", *table(measured), "", END + after]))
+    return measured
 
 
 def main():
-    log = sys.argv[1] if len(sys.argv) > 1 else os.path.join(tempfile.gettempdir(), "gate.log")
-    used, begun = {}, time.time()
-    with open(log, "w") as out:
-        gate = subprocess.Popen(["rt", "ci"], cwd=TOP, stdout=out, stderr=subprocess.STDOUT)
-        while gate.poll() is None:
-            for pid in below(gate.pid):
-                look(pid, used)
-            time.sleep(2)
-    minutes = collections.defaultdict(collections.Counter)
-    for crate, part, so_far in used.values():
-        minutes[crate][part] += so_far
-    for crate in sorted(minutes, key=lambda it: -sum(minutes[it].values())):
-        parts = ", ".join(f"{part} {minutes[crate][part]:.1f}" for part in ("proof", "tests", "edits"))
-        print(f"{crate:20} {sum(minutes[crate].values()):6.1f}  ({parts})")
-    print(f"wall clock {(time.time() - begun) / 60:.1f}; status {gate.returncode}; log {log}")
-    return gate.returncode
+    words = sys.argv[1:]
+    signal.signal(signal.SIGTERM, signal.default_int_handler)
+    if words[:1] == ["table"]:
+        write_table()
+        return 0
+    status = 0
+    try:
+        if words[:1] == ["watch"]:
+            gate = int(words[1]) if len(words) > 1 else found_gate()
+            watch(gate, lambda: is_gone(gate))
+        else:
+            log = words[0] if words else os.path.join(tempfile.gettempdir(), "gate.log")
+            with open(log, "w") as out:
+                run = subprocess.Popen(["rt", "ci"], cwd=TOP, stdout=out, stderr=subprocess.STDOUT)
+                watch(run.pid, lambda: run.poll() is not None)
+            status = run.returncode
+    except KeyboardInterrupt:
+        status = 130
+    measured = write_table()
+    print(f"{measured.get('whole', 0):.1f} processor minutes, {measured.get('wall', 0):.1f} of the clock; the table is in docs/GATE.md")
+    return status
 
 
-sys.exit(main())
+if __name__ == "__main__":
+    sys.exit(main())

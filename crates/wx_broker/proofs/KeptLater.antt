@@ -1,5 +1,5 @@
 -- The journal is legal and the tables tell it, one entry later.
-use Rattle.std.proofs.Common.{◌≡◌, ℕ, List, [], ◌∷◌, ◌++◌, length, refl, ap, sym, ◌∙◌, true, false, cond, not, subst, map}
+use Rattle.std.proofs.Common.{◌≡◌, ℕ, List, [], ◌∷◌, ◌++◌, length, refl, ap, sym, ◌∙◌, true, false, cond, not, subst, map, append-nil}
 use Rattle.std.specs.Prelude.{None, Ok, Err, OnOk, OnErr, is_err, ◌<◌, ◌≤◌, nat_lt, reverse, slice_get, ◌&&◌, ◌==◌}
 use Rattle.std.specs.Option.{option_map}
 use Rattle.std.specs.declared.result.Result.{Result}
@@ -96,11 +96,6 @@ kept_quiet world journal new e ports rows kept follows h grown =
     (requests_kept e past rows quiet.stays quiet.declines quiet.asks_none quiet.settles_none kept.requests)
     kept.awaited
 
--- the same, given what the push answered
-pub kept_pushed : {A B : Type 0} (world : WorldLists) (journal new : List Entry) (e : Entry) (ports : List Port) (rows : List Request) (pushed : Result A B) → IsKept world journal ports rows → FollowsMachine world (reverse journal) e → is_quiet e.call e.answer ≡ true → OnOk pushed (new ≡ journal ++ e ∷ []) → OnErr pushed (new ≡ journal) → IsKept world new ports rows
-kept_pushed world journal new e ports rows (Ok a) kept follows h grown same = kept_quiet world journal new e ports rows kept follows h grown
-kept_pushed world journal new e ports rows (Err b) kept follows h grown same = subst (λ j. IsKept world j ports rows) (sym same) kept
-
 -- what holds of a success holds where there is no error
 pub ok_holds : {A B P : Type 0} (r : Result A B) → OnOk r P → is_err r ≡ false → P
 ok_holds (Ok a) h e = h
@@ -110,28 +105,30 @@ ok_holds (Err b) h e = absurd (true≢false e)
 pub may_call : (past : List Entry) (c : ContextNo) → c.0 < contexts past → nat_lt c.0 (contexts past) ≡ true
 may_call past c h = lt-ltb c.0 (contexts past) h
 
-pub kept_opened : (world : WorldLists) (journal new : List Entry) (c : ContextNo) (target : Target) (name : List ℕ) (answer : Answer) (ports ports' : List Port) (rows : List Request) → IsKept world journal ports rows → FollowsMachine world (reverse journal) (record { who = ByContext c; call = Connect target name; answer = answer }) → is_channel answer ≡ true → new ≡ journal ++ record { who = ByContext c; call = Connect target name; answer = answer } ∷ [] → ports' ≡ ports ++ opened c (receivers_of (reverse journal) c target Connection) ∷ [] → IsKept world new ports' rows
-kept_opened world journal new c target name (OnChannel k) ports ports' rows kept follows is grown more =
+pub kept_connected : (world : WorldLists) (journal new : List Entry) (c : ContextNo) (target : Target) (name : List ℕ) (answer : Answer) (ports ports' : List Port) (rows : List Request) → IsKept world journal ports rows → FollowsMachine world (reverse journal) (record { who = ByContext c; call = Connect target name; answer = answer }) → new ≡ journal ++ record { who = ByContext c; call = Connect target name; answer = answer } ∷ [] → ports' ≡ ports ++ cond (is_channel answer) (opened c (receivers_of (reverse journal) c target Connection) ∷ []) [] → IsKept world new ports' rows
+kept_connected world journal new c target name (OnChannel k) ports ports' rows kept follows grown more =
     let past = reverse journal in
     let e : Entry = record { who = ByContext c; call = Connect target name; answer = OnChannel k } in
     kept_by world journal new e ports ports' rows rows kept follows grown
     (channels_opened past c target name k ports ports' more kept.channels)
     (requests_kept e past rows refl (λ r. refl) refl (λ r. refl) kept.requests)
     kept.awaited
-kept_opened world journal new c target name answer ports ports' rows kept follows is grown more = absurd (false≢true is)
+kept_connected world journal new c target name answer ports ports' rows kept follows grown more =
+    subst (λ ps. IsKept world new ps rows) (sym (more ∙ append-nil ports)) (kept_quiet world journal new (record { who = ByContext c; call = Connect target name; answer = answer }) ports rows kept follows refl grown)
 
-pub kept_opened_native : (world : WorldLists) (journal new : List Entry) (c : ContextNo) (name : List ℕ) (answer : Answer) (ports ports' : List Port) (rows : List Request) → IsKept world journal ports rows → FollowsMachine world (reverse journal) (record { who = ByContext c; call = ConnectNative name; answer = answer }) → is_channel answer ≡ true → new ≡ journal ++ record { who = ByContext c; call = ConnectNative name; answer = answer } ∷ [] → ports' ≡ ports ++ opened c [] ∷ [] → IsKept world new ports' rows
-kept_opened_native world journal new c name (OnChannel k) ports ports' rows kept follows is grown more =
+pub kept_connected_native : (world : WorldLists) (journal new : List Entry) (c : ContextNo) (name : List ℕ) (answer : Answer) (ports ports' : List Port) (rows : List Request) → IsKept world journal ports rows → FollowsMachine world (reverse journal) (record { who = ByContext c; call = ConnectNative name; answer = answer }) → new ≡ journal ++ record { who = ByContext c; call = ConnectNative name; answer = answer } ∷ [] → ports' ≡ ports ++ cond (is_channel answer) (opened c [] ∷ []) [] → IsKept world new ports' rows
+kept_connected_native world journal new c name (OnChannel k) ports ports' rows kept follows grown more =
     let past = reverse journal in
     let e : Entry = record { who = ByContext c; call = ConnectNative name; answer = OnChannel k } in
     kept_by world journal new e ports ports' rows rows kept follows grown
     (channels_opened_native past c name k ports ports' more kept.channels)
     (requests_kept e past rows refl (λ r. refl) refl (λ r. refl) kept.requests)
     kept.awaited
-kept_opened_native world journal new c name answer ports ports' rows kept follows is grown more = absurd (false≢true is)
+kept_connected_native world journal new c name answer ports ports' rows kept follows grown more =
+    subst (λ ps. IsKept world new ps rows) (sym (more ∙ append-nil ports)) (kept_quiet world journal new (record { who = ByContext c; call = ConnectNative name; answer = answer }) ports rows kept follows refl grown)
 
-pub kept_asked : (world : WorldLists) (journal new : List Entry) (c : ContextNo) (target : Target) (text : List ℕ) (answer : Answer) (ports : List Port) (rows rows' : List Request) → IsKept world journal ports rows → FollowsMachine world (reverse journal) (record { who = ByContext c; call = Send target text; answer = answer }) → is_request answer ≡ true → new ≡ journal ++ record { who = ByContext c; call = Send target text; answer = answer } ∷ [] → rows' ≡ rows ++ asked c (receivers_of (reverse journal) c target Message) ∷ [] → IsKept world new ports rows'
-kept_asked world journal new c target text (OnRequest r) ports rows rows' kept follows is grown more =
+pub kept_sent : (world : WorldLists) (journal new : List Entry) (c : ContextNo) (target : Target) (text : List ℕ) (answer : Answer) (ports : List Port) (rows rows' : List Request) → IsKept world journal ports rows → FollowsMachine world (reverse journal) (record { who = ByContext c; call = Send target text; answer = answer }) → new ≡ journal ++ record { who = ByContext c; call = Send target text; answer = answer } ∷ [] → rows' ≡ rows ++ cond (is_request answer) (asked c (receivers_of (reverse journal) c target Message) ∷ []) [] → IsKept world new ports rows'
+kept_sent world journal new c target text (OnRequest r) ports rows rows' kept follows grown more =
     let past = reverse journal in
     let rs = receivers_of past c target Message in
     let e : Entry = record { who = ByContext c; call = Send target text; answer = OnRequest r } in
@@ -139,17 +136,19 @@ kept_asked world journal new c target text (OnRequest r) ports rows rows' kept f
     (channels_kept e past ports refl refl (λ k. refl) kept.channels)
     (requests_asked past c target text r rows rows' more kept.requests)
     (awaited_asked c rs rows rows' more kept.awaited)
-kept_asked world journal new c target text answer ports rows rows' kept follows is grown more = absurd (false≢true is)
+kept_sent world journal new c target text answer ports rows rows' kept follows grown more =
+    subst (λ rs. IsKept world new ports rs) (sym (more ∙ append-nil rows)) (kept_quiet world journal new (record { who = ByContext c; call = Send target text; answer = answer }) ports rows kept follows refl grown)
 
-pub kept_asked_native : (world : WorldLists) (journal new : List Entry) (c : ContextNo) (name text : List ℕ) (answer : Answer) (ports : List Port) (rows rows' : List Request) → IsKept world journal ports rows → FollowsMachine world (reverse journal) (record { who = ByContext c; call = SendNative name text; answer = answer }) → is_request answer ≡ true → new ≡ journal ++ record { who = ByContext c; call = SendNative name text; answer = answer } ∷ [] → rows' ≡ rows ++ asked c [] ∷ [] → IsKept world new ports rows'
-kept_asked_native world journal new c name text (OnRequest r) ports rows rows' kept follows is grown more =
+pub kept_sent_native : (world : WorldLists) (journal new : List Entry) (c : ContextNo) (name text : List ℕ) (answer : Answer) (ports : List Port) (rows rows' : List Request) → IsKept world journal ports rows → FollowsMachine world (reverse journal) (record { who = ByContext c; call = SendNative name text; answer = answer }) → new ≡ journal ++ record { who = ByContext c; call = SendNative name text; answer = answer } ∷ [] → rows' ≡ rows ++ cond (is_request answer) (asked c [] ∷ []) [] → IsKept world new ports rows'
+kept_sent_native world journal new c name text (OnRequest r) ports rows rows' kept follows grown more =
     let past = reverse journal in
     let e : Entry = record { who = ByContext c; call = SendNative name text; answer = OnRequest r } in
     kept_by world journal new e ports ports rows rows' kept follows grown
     (channels_kept e past ports refl refl (λ k. refl) kept.channels)
     (requests_asked_native past c name text r rows rows' more kept.requests)
     (awaited_asked c [] rows rows' more kept.awaited)
-kept_asked_native world journal new c name text answer ports rows rows' kept follows is grown more = absurd (false≢true is)
+kept_sent_native world journal new c name text answer ports rows rows' kept follows grown more =
+    subst (λ rs. IsKept world new ports rs) (sym (more ∙ append-nil rows)) (kept_quiet world journal new (record { who = ByContext c; call = SendNative name text; answer = answer }) ports rows kept follows refl grown)
 
 pub kept_disconnected : (world : WorldLists) (journal new : List Entry) (c : ContextNo) (k : ChannelNo) (answer : Answer) (ports ports' : List Port) (rows : List Request) → IsKept world journal ports rows → FollowsMachine world (reverse journal) (disconnect_entry c k answer) → new ≡ journal ++ disconnect_entry c k answer ∷ [] → ((j : ℕ) → slice_get ports' j ≡ option_map (λ port. cond (is_done answer && (k.0 == j)) (closed port) port) (slice_get ports j)) → IsKept world new ports' rows
 kept_disconnected world journal new c k answer ports ports' rows kept follows grown changed =

@@ -1,7 +1,8 @@
 -- The contexts of a legal journal have distinct numbers, and so have the receivers of a call.
-use Rattle.std.proofs.Common.{◌≡◌, ◌+◌, ◌<◌, List, [], ◌∷◌, ◌++◌, refl, ap, sym, ◌∙◌, Bool, true, false, cond, not, arith, append-nil}
-use Rattle.std.specs.Prelude.{filter, ◌&&◌, ◌||◌}
+use Rattle.std.proofs.Common.{◌≡◌, ◌+◌, ◌<◌, List, [], ◌∷◌, ◌++◌, refl, ap, sym, ◌∙◌, Bool, true, false, cond, not, arith, append-nil, subst, length, ◌≤◌}
+use Rattle.std.specs.Prelude.{filter, ◌&&◌, ◌||◌, reverse, option_to_list}
 use Rattle.std.proofs.lemmas.Bool.{and_parts, true≢false, not-true, false_from_ne_true}
+use Rattle.std.proofs.lemmas.List.{length-append}
 use Rattle.std.proofs.lemmas.List.Folds.{list_any-append}
 use Rattle.wx_id.specs.Contexts.{are_distinct, is_among, same_context}
 use Rattle.wx_id.specs.declared.numbers.ContextNo.{ContextNo}
@@ -16,6 +17,9 @@ use Rattle.wx_machine.specs.declared.entries.Answer.{Answer}
 use Rattle.wx_machine.specs.declared.entries.Entry.{Entry}
 use Rattle.wx_machine.specs.Each.{EachAfter}
 use Rattle.wx_machine.specs.Contexts.{contexts, numbers, numbers_of, brought, is_enter, is_receiver, receivers_of, is_live, reaches_from, context_of, listens_of}
+use Rattle.wx_machine.specs.Hosts.{hosts, starts}
+use Rattle.wx_walks.proofs.Past.{reverse-push}
+use Rattle.wx_broker.specs.Steps.{KeepsNumbers}
 use Rattle.wx_machine.specs.Answers.{FollowsMachine, answer_after, may_make}
 use Rattle.wx_broker.proofs.LivesLater.{among_passing}
 use Rattle.wx_broker.proofs.TestsLater.{and_false, or_false, same_self, same_back, same_is}
@@ -90,3 +94,9 @@ caller_apart past c target sort =
     among_passing (is_receiver past c target sort) (numbers past) c
     ∙ ap (λ b. ((not b && is_live past c) && reaches_from (context_of past c) target sort (context_of past c) (listens_of past c)) && is_among (numbers past) c) (same_self c.0)
 
+-- one more entry takes no number back
+pub numbers_kept : (journal : List Entry) (e : Entry) → KeepsNumbers journal (journal ++ e ∷ [])
+numbers_kept journal e = record {
+  contexts_stay = rw (reverse-push journal e) (omega arith);
+  hosts_stay = rw (reverse-push journal e) (subst (λ n. length (hosts (reverse journal)) ≤ n) (sym (length-append (hosts (reverse journal)) (option_to_list (starts (reverse journal) e)))) (omega arith));
+}

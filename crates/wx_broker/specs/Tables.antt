@@ -1,11 +1,12 @@
 -- How the tables of channels and requests tell a journal.
 use Rattle.std.specs.Prelude.{◌≡◌, ◌<◌, ℕ, length, List, [], Bool, true, false, not, cond, Option, Some, None, reverse, filter, slice_get, IfSome, ◌==◌}
 use Rattle.std.specs.Option.{option_map}
+use Rattle.wx_id.specs.declared.numbers.EntryNo.{EntryNo}
 use Rattle.wx_external.specs.World.{WorldLists}
 use Rattle.wx_machine.specs.declared.entries.Call.{Call}
 use Rattle.wx_machine.specs.declared.entries.Call.TheVariants.{Enter, Listen, Connect, Post, Send, Take, ConnectNative, SendNative, HostTake}
 use Rattle.wx_machine.specs.declared.entries.Answer.{Answer}
-use Rattle.wx_machine.specs.declared.entries.Answer.TheVariants.{Channel as OnChannel, Request as OnRequest, Done, Gone, First, Late as TooLate, NotYours, PortClosed, Passed, Ignored}
+use Rattle.wx_machine.specs.declared.entries.Answer.TheVariants.{Channel as OnChannel, Request as OnRequest, Event as Told, Text as HasText, Done, Gone, First, Late as TooLate, NotYours, PortClosed, Passed, Ignored}
 use Rattle.wx_machine.specs.declared.entries.Entry.{Entry}
 use Rattle.wx_machine.specs.declared.work.Work.{Work}
 use Rattle.wx_machine.specs.declared.work.Work.TheVariants.{Channel as ForChannel, Request as ForRequest}
@@ -117,3 +118,13 @@ abbrev pub on_standing : Standing → Answer → Answer
 on_standing Stranger answer = NotYours
 on_standing Late answer = TooLate
 on_standing Open answer = answer
+
+-- the answer tells an event
+abbrev pub is_event : Answer → Bool
+is_event (Told event) = true
+is_event _ = false
+
+-- the entry with the text that the answer tells a host
+abbrev pub text_told : Answer → Option EntryNo
+text_told (HasText n) = Some n
+text_told _ = None

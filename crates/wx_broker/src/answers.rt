@@ -1,20 +1,16 @@
 //! The machine's answers. Channels and requests are found in their tables, the rest by walking the journal.
-ghost use Rattle.std.specs.Prelude.{◌≡◌, cond, length, not, option_copied, reverse, slice_get};
+ghost use Rattle.std.specs.Prelude.{◌≡◌, ℕ, List, cond, not, option_copied, reverse, slice_get};
+ghost use Rattle.wx_external.specs.World.{WorldLists};
+ghost use Rattle.wx_machine.specs.Answers.{answer_after, at_end, gate_for, where_heard, where_open, where_short};
 ghost use Rattle.wx_machine.specs.Contexts.{context_of, is_live, receivers_of};
-ghost use Rattle.wx_machine.specs.Channels.{channels, channel, end_in};
-ghost use Rattle.wx_machine.specs.Closing.{is_closed};
-ghost use Rattle.wx_machine.specs.Requests.{requests, request, is_asked};
-ghost use Rattle.wx_machine.specs.Events.{pending};
-ghost use Rattle.wx_machine.specs.Each.{first};
 ghost use Rattle.wx_port.specs.Port.{end_of, is_open_port};
 ghost use Rattle.wx_one_shot.specs.Requests.{standing_at};
 ghost use Rattle.wx_broker.specs.Tables.{HasChannels, HasRequests, is_channel, is_request, is_done, is_first, on_standing};
-ghost use Rattle.wx_machine.specs.Answers.{at_end, gate_for, on_request, is_late, told_or_empty, where_heard, where_open, where_short};
 
 use wx_context::{Context, Target};
 use wx_external::{Verdict, World, gate};
 use wx_id::{ChannelNo, ContextNo, End, RequestNo};
-use wx_machine::{Answer, Entry, JsonText, LONGEST, Sort};
+use wx_machine::{Answer, Call, Entry, JsonText, LONGEST, Sort, Who};
 use wx_one_shot::{Requests, Standing};
 use wx_port::Ports;
 use wx_walks::{contexts, events};
@@ -77,7 +73,10 @@ fn to_target(
     sort: Sort,
     answer: Answer,
 ) -> Answer
-    ensures { result ≡ cond (is_live (reverse entries.now) c) (where_open (gate_for world.now (context_of (reverse entries.now) c) target.now) (where_heard (receivers_of (reverse entries.now) c target.now sort) answer)) Answer.Gone }
+    ensures { result ≡ cond (is_live (reverse entries.now) c)
+        (where_open (gate_for world.now (context_of (reverse entries.now) c) target.now)
+        (where_heard (receivers_of (reverse entries.now) c target.now sort) answer))
+        Answer.Gone }
 {
     if !contexts::is_live(entries, c) {
         return Answer::Gone;
@@ -97,7 +96,8 @@ pub fn connect(
     target: &Target,
 ) -> Answer
     requires { HasChannels (reverse entries.now) ports.now }
-    ensures { result ≡ cond (is_live (reverse entries.now) c) (where_open (gate_for world.now (context_of (reverse entries.now) c) target.now) (where_heard (receivers_of (reverse entries.now) c target.now Sort.Connection) (Answer.Channel (record { 0 = length (channels (reverse entries.now)) })))) Answer.Gone }
+    ensures { (name : List ℕ)
+        → result ≡ answer_after world.now (reverse entries.now) (Who.Context c) (Call.Connect target.now name) }
 {
     let opened = Answer::Channel(ChannelNo(ports.count()));
     to_target(world, entries, c, target, Sort::Connection, opened)
@@ -106,7 +106,8 @@ pub fn connect(
 /// The answer to a post.
 pub fn post(entries: &[Entry], ports: &Ports, c: ContextNo, k: ChannelNo, text: &JsonText) -> Answer
     requires { HasChannels (reverse entries.now) ports.now }
-    ensures { result ≡ cond (is_live (reverse entries.now) c) (at_end (end_in (channel (reverse entries.now) k.0) c) (is_closed (reverse entries.now) k.0) Answer.PortClosed (where_short text.now Answer.Posted)) Answer.Gone }
+    ensures { (world : WorldLists)
+        → result ≡ answer_after world (reverse entries.now) (Who.Context c) (Call.Post k text.now) }
 {
     if !contexts::is_live(entries, c) {
         return Answer::Gone;
@@ -123,7 +124,8 @@ pub fn post(entries: &[Entry], ports: &Ports, c: ContextNo, k: ChannelNo, text: 
 /// The answer to a disconnect.
 pub fn disconnect(entries: &[Entry], ports: &Ports, c: ContextNo, k: ChannelNo) -> Answer
     requires { HasChannels (reverse entries.now) ports.now }
-    ensures { result ≡ cond (is_live (reverse entries.now) c) (at_end (end_in (channel (reverse entries.now) k.0) c) (is_closed (reverse entries.now) k.0) Answer.NoEffect Answer.Done) Answer.Gone }
+    ensures { (world : WorldLists)
+        → result ≡ answer_after world (reverse entries.now) (Who.Context c) (Call.Disconnect k) }
 {
     if !contexts::is_live(entries, c) {
         return Answer::Gone;
@@ -141,7 +143,7 @@ pub fn send(
     text: &JsonText,
 ) -> Answer
     requires { HasRequests (reverse entries.now) rows.now }
-    ensures { result ≡ cond (is_live (reverse entries.now) c) (where_open (gate_for world.now (context_of (reverse entries.now) c) target.now) (where_heard (receivers_of (reverse entries.now) c target.now Sort.Message) (where_short text.now (Answer.Request (record { 0 = length (requests (reverse entries.now)) }))))) Answer.Gone }
+    ensures { result ≡ answer_after world.now (reverse entries.now) (Who.Context c) (Call.Send target.now text.now) }
 {
     let asked = where_short(text, Answer::Request(RequestNo(rows.count())));
     to_target(world, entries, c, target, Sort::Message, asked)
@@ -156,7 +158,8 @@ pub fn reply(
     text: &JsonText,
 ) -> Answer
     requires { HasRequests (reverse entries.now) rows.now }
-    ensures { result ≡ cond (is_live (reverse entries.now) c) (on_request (is_asked (request (reverse entries.now) r.0) c) (is_late (reverse entries.now) r.0 c) (where_short text.now Answer.First)) Answer.Gone }
+    ensures { (world : WorldLists)
+        → result ≡ answer_after world (reverse entries.now) (Who.Context c) (Call.Reply r text.now) }
 {
     if !contexts::is_live(entries, c) {
         return Answer::Gone;
@@ -167,7 +170,8 @@ pub fn reply(
 /// The answer to a decline.
 pub fn decline(entries: &[Entry], rows: &Requests, c: ContextNo, r: RequestNo) -> Answer
     requires { HasRequests (reverse entries.now) rows.now }
-    ensures { result ≡ cond (is_live (reverse entries.now) c) (on_request (is_asked (request (reverse entries.now) r.0) c) (is_late (reverse entries.now) r.0 c) Answer.Done) Answer.Gone }
+    ensures { (world : WorldLists)
+        → result ≡ answer_after world (reverse entries.now) (Who.Context c) (Call.Decline r) }
 {
     if !contexts::is_live(entries, c) {
         return Answer::Gone;
@@ -177,7 +181,7 @@ pub fn decline(entries: &[Entry], rows: &Requests, c: ContextNo, r: RequestNo) -
 
 /// The answer to a take.
 pub fn take(entries: &[Entry], c: ContextNo) -> Answer
-    ensures { result ≡ cond (is_live (reverse entries.now) c) (told_or_empty (first (pending (reverse entries.now) c))) Answer.Gone }
+    ensures { (world : WorldLists) → result ≡ answer_after world (reverse entries.now) (Who.Context c) Call.Take }
 {
     if !contexts::is_live(entries, c) {
         return Answer::Gone;
@@ -196,7 +200,8 @@ fn on_channel(
     on_closed: Answer,
     on_open: Answer,
 ) -> Answer
-    ensures { result ≡ at_end (end_of (slice_get ports.now k.0) c) (not (is_open_port (slice_get ports.now k.0))) on_closed on_open }
+    ensures { result
+        ≡ at_end (end_of (slice_get ports.now k.0) c) (not (is_open_port (slice_get ports.now k.0))) on_closed on_open }
 {
     if ports.end(k, c) == End::Neither {
         Answer::NoPort

@@ -3,12 +3,10 @@ ghost use Rattle.std.specs.Prelude.{◌≡◌, ◌+◌, ◌<◌, ◌≤◌, IsOk
 ghost use Rattle.wx_machine.specs.Contexts.{contexts};
 ghost use Rattle.wx_machine.specs.Answers.{answer_of, FollowsMachine, IsLegal};
 ghost use Rattle.wx_machine.specs.Events.{has_pending};
-ghost use Rattle.wx_broker.specs.Carried.{is_event};
-ghost use Rattle.wx_broker.specs.Steps.{Appends, Stays};
-ghost use Rattle.wx_broker.specs.Tables.{is_channel, is_request, is_quiet};
+ghost use Rattle.wx_broker.specs.Steps.{Appends, KeepsNumbers, Stays};
+ghost use Rattle.wx_broker.specs.Tables.{is_channel, is_event, is_request, is_quiet};
 ghost use Rattle.wx_laws.specs.Keeping.{KeepsLaws};
 
-use crate::carried::{entered, port_name, posted, replied, sent};
 use crate::{answers, tables};
 use std::alloc::Global;
 use std::marker::Model;
@@ -58,38 +56,39 @@ impl Broker {
         }
     }
 
-    /// Appends an entry that changes no table. It comes back where memory was refused.
-    pub(crate) fn append(&mut self, e: Entry) -> Result<(), Entry>
+    /// Appends an entry that changes no table, and that there is room for.
+    pub(crate) fn append(&mut self, e: Entry)
         requires follows { FollowsMachine self.old.world (reverse self.old.entries) e }
         requires quiet { IsTrue (is_quiet e.call e.answer) }
-        ensures ok { OnOk result (self.new.entries ≡ self.old.entries ++ e ∷ []) }
-        ensures err { OnErr result (self.new.entries ≡ self.old.entries) }
+        requires room { 0 < self.old.spare }
+        ensures grown { self.new.entries ≡ self.old.entries ++ e ∷ [] }
         ensures world { self.new.world ≡ self.old.world }
-        ensures returned { IfErr result (λ back. back ≡ e) }
-        ensures room { 0 < self.old.spare → IsOk result }
         ensures spare { self.old.spare ≤ self.new.spare + 1 }
+        ensures numbers { KeepsNumbers self.old.entries self.new.entries }
     {
-        self.journal.push(e)
+        tables::push(&mut self.journal, e);
     }
 
     /// A context enters, and is given the next number. It comes back where memory was refused.
+    #[tactic(auto, using(wx_walks::proofs::Past::contexts_after))]
     pub fn enter(&mut self, x: Context) -> Result<ContextNo, Context>
         ensures ok { IfOk result (λ c. Appends self.old self.new (Who.Context c) (Call.Enter x) (Answer.Entered c)) }
         ensures err { OnErr result (Stays self.old self.new) }
         ensures returned { IfErr result (λ back. back ≡ x) }
-        ensures room { 0 < self.old.spare → IsOk result }
         ensures spare { self.old.spare ≤ self.new.spare + 1 }
+        ensures numbers { KeepsNumbers self.old.entries self.new.entries }
+        ensures given { IfOk result (λ c. c.0 < contexts (reverse self.new.entries)) }
     {
+        if self.journal.reserve(1).is_err() {
+            return Err(x);
+        }
         let c = ContextNo(contexts::count(self.journal.entries()));
-        let e = Entry {
+        self.append(Entry {
             who: Who::Context(c),
             call: Call::Enter(x),
             answer: Answer::Entered(c),
-        };
-        match self.append(e) {
-            Ok(()) => Ok(c),
-            Err(e) => Err(entered(e)),
-        }
+        });
+        Ok(c)
     }
 
     /// Context c says what it listens to.
@@ -99,17 +98,16 @@ impl Broker {
         ensures err { OnErr result (Stays self.old self.new) }
         ensures room { 0 < self.old.spare → IsOk result }
         ensures spare { self.old.spare ≤ self.new.spare + 1 }
+        ensures numbers { KeepsNumbers self.old.entries self.new.entries }
     {
+        self.journal.reserve(1)?;
         let answer = answers::done_if_live(self.journal.entries(), c);
-        let e = Entry {
+        self.append(Entry {
             who: Who::Context(c),
             call: Call::Listen(l),
             answer,
-        };
-        match self.append(e) {
-            Ok(()) => Ok(answer),
-            Err(_) => Err(NoMemory),
-        }
+        });
+        Ok(answer)
     }
 
     /// Context c leaves.
@@ -119,22 +117,22 @@ impl Broker {
         ensures err { OnErr result (Stays self.old self.new) }
         ensures room { 0 < self.old.spare → IsOk result }
         ensures spare { self.old.spare ≤ self.new.spare + 1 }
+        ensures numbers { KeepsNumbers self.old.entries self.new.entries }
     {
+        self.journal.reserve(1)?;
         let answer = answers::done_if_live(self.journal.entries(), c);
-        let e = Entry {
-            who: Who::Context(c),
-            call: Call::Leave,
-            answer,
-        };
-        match self.journal.push(e) {
-            Ok(()) => {
-                // To one who left before this does nothing.
-                self.ports.leave(c);
-                self.requests.leave(c);
-                Ok(answer)
-            }
-            Err(_) => Err(NoMemory),
-        }
+        // To one who left before this does nothing.
+        self.ports.leave(c);
+        self.requests.leave(c);
+        tables::push(
+            &mut self.journal,
+            Entry {
+                who: Who::Context(c),
+                call: Call::Leave,
+                answer,
+            },
+        );
+        Ok(answer)
     }
 
     /// Context c opens a channel to a target (`runtime.connect`). The port name comes back where memory was
@@ -149,59 +147,35 @@ impl Broker {
         ensures ok { IfOk result (λ a. Appends self.old self.new (Who.Context c) (Call.Connect target name) a) }
         ensures err { OnErr result (Stays self.old self.new) }
         ensures returned { IfErr result (λ back. back ≡ name) }
-        ensures room { 0 < self.old.spare → OnErr result (IsTrue (is_channel (answer_of self.old.world self.old.entries (Who.Context c) (Call.Connect target name)))) }
+        ensures room { 0 < self.old.spare
+            → OnErr result (IsTrue (is_channel
+            (answer_of self.old.world self.old.entries (Who.Context c) (Call.Connect target name)))) }
         ensures spare { self.old.spare ≤ self.new.spare + 1 }
-    {
-        let answer = answers::connect(&self.world, self.journal.entries(), &self.ports, c, &target);
-        if answers::is_channel(answer) {
-            return self.open(c, target, name, answer);
-        }
-        let e = Entry {
-            who: Who::Context(c),
-            call: Call::Connect(target, name),
-            answer,
-        };
-        match self.append(e) {
-            Ok(()) => Ok(answer),
-            Err(e) => Err(port_name(e)),
-        }
-    }
-
-    /// Context c opens a channel, with that answer. Nothing is changed before there is room for all.
-    fn open(
-        &mut self,
-        c: ContextNo,
-        target: Target,
-        name: Utf8Text,
-        answer: Answer,
-    ) -> Result<Answer, Utf8Text>
-        requires follows { FollowsMachine self.old.world (reverse self.old.entries) (record { who = Who.Context c; call = Call.Connect target name; answer = answer }) }
-        requires opens { IsTrue (is_channel answer) }
-        ensures ok { IfOk result (λ a. Appends self.old self.new (Who.Context c) (Call.Connect target name) a) }
-        ensures err { OnErr result (Stays self.old self.new) }
-        ensures returned { IfErr result (λ back. back ≡ name) }
-        ensures spare { self.old.spare ≤ self.new.spare + 1 }
+        ensures numbers { KeepsNumbers self.old.entries self.new.entries }
     {
         if self.journal.reserve(1).is_err() {
             return Err(name);
         }
-        if tables::open(
+        let answer = answers::connect(&self.world, self.journal.entries(), &self.ports, c, &target);
+        let opened = tables::open(
             &mut self.ports,
             self.alloc,
             self.journal.entries(),
             c,
             &target,
-        )
-        .is_err()
-        {
+            answer,
+        );
+        if opened.is_err() {
             return Err(name);
         }
-        let e = Entry {
-            who: Who::Context(c),
-            call: Call::Connect(target, name),
-            answer,
-        };
-        tables::push(&mut self.journal, e);
+        tables::push(
+            &mut self.journal,
+            Entry {
+                who: Who::Context(c),
+                call: Call::Connect(target, name),
+                answer,
+            },
+        );
         Ok(answer)
     }
 
@@ -212,19 +186,19 @@ impl Broker {
         ensures ok { IfOk result (λ a. Appends self.old self.new (Who.Context c) (Call.Post k text) a) }
         ensures err { OnErr result (Stays self.old self.new) }
         ensures returned { IfErr result (λ back. back ≡ text) }
-        ensures room { 0 < self.old.spare → IsOk result }
         ensures spare { self.old.spare ≤ self.new.spare + 1 }
+        ensures numbers { KeepsNumbers self.old.entries self.new.entries }
     {
+        if self.journal.reserve(1).is_err() {
+            return Err(text);
+        }
         let answer = answers::post(self.journal.entries(), &self.ports, c, k, &text);
-        let e = Entry {
+        self.append(Entry {
             who: Who::Context(c),
             call: Call::Post(k, text),
             answer,
-        };
-        match self.append(e) {
-            Ok(()) => Ok(answer),
-            Err(e) => Err(posted(e)),
-        }
+        });
+        Ok(answer)
     }
 
     /// Context c closes channel k (`Port.disconnect`).
@@ -234,20 +208,20 @@ impl Broker {
         ensures err { OnErr result (Stays self.old self.new) }
         ensures room { 0 < self.old.spare → IsOk result }
         ensures spare { self.old.spare ≤ self.new.spare + 1 }
+        ensures numbers { KeepsNumbers self.old.entries self.new.entries }
     {
+        self.journal.reserve(1)?;
         let answer = answers::disconnect(self.journal.entries(), &self.ports, c, k);
-        let e = Entry {
-            who: Who::Context(c),
-            call: Call::Disconnect(k),
-            answer,
-        };
-        match self.journal.push(e) {
-            Ok(()) => {
-                tables::close_if_done(&mut self.ports, k, answer);
-                Ok(answer)
-            }
-            Err(_) => Err(NoMemory),
-        }
+        tables::close_if_done(&mut self.ports, k, answer);
+        tables::push(
+            &mut self.journal,
+            Entry {
+                who: Who::Context(c),
+                call: Call::Disconnect(k),
+                answer,
+            },
+        );
+        Ok(answer)
     }
 
     /// Context c sends a message to a target, and asks for one reply (`runtime.sendMessage`). The message comes
@@ -257,9 +231,15 @@ impl Broker {
         ensures ok { IfOk result (λ a. Appends self.old self.new (Who.Context c) (Call.Send target text) a) }
         ensures err { OnErr result (Stays self.old self.new) }
         ensures returned { IfErr result (λ back. back ≡ text) }
-        ensures room { 0 < self.old.spare → OnErr result (IsTrue (is_request (answer_of self.old.world self.old.entries (Who.Context c) (Call.Send target text)))) }
+        ensures room { 0 < self.old.spare
+            → OnErr result (IsTrue (is_request
+            (answer_of self.old.world self.old.entries (Who.Context c) (Call.Send target text)))) }
         ensures spare { self.old.spare ≤ self.new.spare + 1 }
+        ensures numbers { KeepsNumbers self.old.entries self.new.entries }
     {
+        if self.journal.reserve(1).is_err() {
+            return Err(text);
+        }
         let answer = answers::send(
             &self.world,
             self.journal.entries(),
@@ -268,55 +248,25 @@ impl Broker {
             &target,
             &text,
         );
-        if answers::is_request(answer) {
-            return self.ask(c, target, text, answer);
-        }
-        let e = Entry {
-            who: Who::Context(c),
-            call: Call::Send(target, text),
-            answer,
-        };
-        match self.append(e) {
-            Ok(()) => Ok(answer),
-            Err(e) => Err(sent(e)),
-        }
-    }
-
-    /// Context c makes a request, with that answer. Nothing is changed before there is room for all.
-    fn ask(
-        &mut self,
-        c: ContextNo,
-        target: Target,
-        text: JsonText,
-        answer: Answer,
-    ) -> Result<Answer, JsonText>
-        requires follows { FollowsMachine self.old.world (reverse self.old.entries) (record { who = Who.Context c; call = Call.Send target text; answer = answer }) }
-        requires asks { IsTrue (is_request answer) }
-        ensures ok { IfOk result (λ a. Appends self.old self.new (Who.Context c) (Call.Send target text) a) }
-        ensures err { OnErr result (Stays self.old self.new) }
-        ensures returned { IfErr result (λ back. back ≡ text) }
-        ensures spare { self.old.spare ≤ self.new.spare + 1 }
-    {
-        if self.journal.reserve(1).is_err() {
-            return Err(text);
-        }
-        if tables::ask(
+        let asked = tables::ask(
             &mut self.requests,
             self.alloc,
             self.journal.entries(),
             c,
             &target,
-        )
-        .is_err()
-        {
+            answer,
+        );
+        if asked.is_err() {
             return Err(text);
         }
-        let e = Entry {
-            who: Who::Context(c),
-            call: Call::Send(target, text),
-            answer,
-        };
-        tables::push(&mut self.journal, e);
+        tables::push(
+            &mut self.journal,
+            Entry {
+                who: Who::Context(c),
+                call: Call::Send(target, text),
+                answer,
+            },
+        );
         Ok(answer)
     }
 
@@ -328,20 +278,22 @@ impl Broker {
         ensures returned { IfErr result (λ back. back ≡ text) }
         ensures room { 0 < self.old.spare → IsOk result }
         ensures spare { self.old.spare ≤ self.new.spare + 1 }
+        ensures numbers { KeepsNumbers self.old.entries self.new.entries }
     {
-        let answer = answers::reply(self.journal.entries(), &self.requests, c, r, &text);
-        let e = Entry {
-            who: Who::Context(c),
-            call: Call::Reply(r, text),
-            answer,
-        };
-        match self.journal.push(e) {
-            Ok(()) => {
-                tables::settle_if_first(&mut self.requests, r, answer);
-                Ok(answer)
-            }
-            Err(e) => Err(replied(e)),
+        if self.journal.reserve(1).is_err() {
+            return Err(text);
         }
+        let answer = answers::reply(self.journal.entries(), &self.requests, c, r, &text);
+        tables::settle_if_first(&mut self.requests, r, answer);
+        tables::push(
+            &mut self.journal,
+            Entry {
+                who: Who::Context(c),
+                call: Call::Reply(r, text),
+                answer,
+            },
+        );
+        Ok(answer)
     }
 
     /// Context c says that it will not reply to request r.
@@ -351,20 +303,20 @@ impl Broker {
         ensures err { OnErr result (Stays self.old self.new) }
         ensures room { 0 < self.old.spare → IsOk result }
         ensures spare { self.old.spare ≤ self.new.spare + 1 }
+        ensures numbers { KeepsNumbers self.old.entries self.new.entries }
     {
+        self.journal.reserve(1)?;
         let answer = answers::decline(self.journal.entries(), &self.requests, c, r);
-        let e = Entry {
-            who: Who::Context(c),
-            call: Call::Decline(r),
-            answer,
-        };
-        match self.journal.push(e) {
-            Ok(()) => {
-                tables::decline_if_done(&mut self.requests, r, c, answer);
-                Ok(answer)
-            }
-            Err(_) => Err(NoMemory),
-        }
+        tables::decline_if_done(&mut self.requests, r, c, answer);
+        tables::push(
+            &mut self.journal,
+            Entry {
+                who: Who::Context(c),
+                call: Call::Decline(r),
+                answer,
+            },
+        );
+        Ok(answer)
     }
 
     /// Context c takes the first event that is pending for it.
@@ -374,17 +326,16 @@ impl Broker {
         ensures err { OnErr result (Stays self.old self.new) }
         ensures room { 0 < self.old.spare → IsOk result }
         ensures spare { self.old.spare ≤ self.new.spare + 1 }
+        ensures numbers { KeepsNumbers self.old.entries self.new.entries }
     {
+        self.journal.reserve(1)?;
         let answer = answers::take(self.journal.entries(), c);
-        let e = Entry {
+        self.append(Entry {
             who: Who::Context(c),
             call: Call::Take,
             answer,
-        };
-        match self.append(e) {
-            Ok(()) => Ok(answer),
-            Err(_) => Err(NoMemory),
-        }
+        });
+        Ok(answer)
     }
 
     /// Whether a take of context c would now be answered with an event.
@@ -407,7 +358,7 @@ impl Broker {
     pub fn reserve(&mut self, n: u64) -> Result<(), NoMemory>
         ensures same { Stays self.old self.new }
         ensures ok { OnOk result (n ≤ self.new.spare) }
-        ensures kept { self.old.spare ≤ self.new.spare }
+        ensures room { n ≤ self.old.spare → IsOk result }
     {
         self.journal.reserve(n)
     }

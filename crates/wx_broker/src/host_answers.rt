@@ -1,18 +1,16 @@
 //! The machine's answers to the calls that start native hosts, and to those of hosts.
-ghost use Rattle.std.specs.Prelude.{◌≡◌, ◌||◌, cond, length, option_copied, reverse};
+ghost use Rattle.std.specs.Prelude.{◌≡◌, ℕ, List, cond, length, option_copied, reverse};
+ghost use Rattle.wx_machine.specs.Answers.{answer_after, answer_to_host, is_news, native_gate_for, text_or_end, where_native};
 ghost use Rattle.wx_machine.specs.Contexts.{context_of, is_live};
-ghost use Rattle.wx_machine.specs.Channels.{channels};
-ghost use Rattle.wx_machine.specs.Requests.{requests};
 ghost use Rattle.wx_machine.specs.Hosts.{work_of};
-ghost use Rattle.wx_machine.specs.Texts.{has_ended, is_over, next_text};
-ghost use Rattle.wx_machine.specs.Answers.{is_news, native_gate_for, said_for, text_or_end, where_native, where_short};
+ghost use Rattle.wx_machine.specs.Texts.{is_over};
 ghost use Rattle.wx_broker.specs.Tables.{HasChannels, HasRequests, IsWithin, is_over_at, said_at};
 
 use crate::answers::where_short;
 use wx_context::Context;
 use wx_external::{NativeVerdict, World, native_gate};
 use wx_id::{ChannelNo, ContextNo, EntryNo, HostNo, RequestNo, Utf8Text};
-use wx_machine::{Answer, Entry, JsonText, Work};
+use wx_machine::{Answer, Call, Entry, JsonText, Reason, Who, Work};
 use wx_one_shot::Requests;
 use wx_port::Ports;
 use wx_walks::{contexts, hosts, texts};
@@ -49,7 +47,8 @@ fn to_host(
     name: &Utf8Text,
     answer: Answer,
 ) -> Answer
-    ensures { result ≡ cond (is_live (reverse entries.now) c) (where_native (native_gate_for world.now (context_of (reverse entries.now) c) name.now) answer) Answer.Gone }
+    ensures { result ≡ cond (is_live (reverse entries.now) c)
+        (where_native (native_gate_for world.now (context_of (reverse entries.now) c) name.now) answer) Answer.Gone }
 {
     if !contexts::is_live(entries, c) {
         return Answer::Gone;
@@ -69,7 +68,7 @@ pub fn connect_native(
     name: &Utf8Text,
 ) -> Answer
     requires { HasChannels (reverse entries.now) ports.now }
-    ensures { result ≡ cond (is_live (reverse entries.now) c) (where_native (native_gate_for world.now (context_of (reverse entries.now) c) name.now) (Answer.Channel (record { 0 = length (channels (reverse entries.now)) }))) Answer.Gone }
+    ensures { result ≡ answer_after world.now (reverse entries.now) (Who.Context c) (Call.ConnectNative name.now) }
 {
     let opened = Answer::Channel(ChannelNo(ports.count()));
     to_host(world, entries, c, name, opened)
@@ -85,7 +84,7 @@ pub fn send_native(
     text: &JsonText,
 ) -> Answer
     requires { HasRequests (reverse entries.now) rows.now }
-    ensures { result ≡ cond (is_live (reverse entries.now) c) (where_native (native_gate_for world.now (context_of (reverse entries.now) c) name.now) (where_short text.now (Answer.Request (record { 0 = length (requests (reverse entries.now)) })))) Answer.Gone }
+    ensures { result ≡ answer_after world.now (reverse entries.now) (Who.Context c) (Call.SendNative name.now text.now) }
 {
     let asked = where_short(text, Answer::Request(RequestNo(rows.count())));
     to_host(world, entries, c, name, asked)
@@ -127,7 +126,7 @@ fn text_or_end(next: Option<EntryNo>, over: bool) -> Answer
 pub fn host_take(entries: &[Entry], ports: &Ports, rows: &Requests, h: HostNo) -> Answer
     requires channels { HasChannels (reverse entries.now) ports.now }
     requires requests { HasRequests (reverse entries.now) rows.now }
-    ensures { result ≡ text_or_end (next_text (reverse entries.now) h) (has_ended (reverse entries.now) h || is_over (reverse entries.now) (work_of (reverse entries.now) h)) }
+    ensures { result ≡ answer_to_host (reverse entries.now) h Call.HostTake }
 {
     let over = texts::has_ended(entries, h) || is_work_over(entries, ports, rows, h);
     text_or_end(texts::next_text(entries, h), over)
@@ -150,7 +149,7 @@ fn said_at(over: bool, work: Option<Work>) -> Answer
 pub fn host_said(entries: &[Entry], ports: &Ports, rows: &Requests, h: HostNo) -> Answer
     requires channels { HasChannels (reverse entries.now) ports.now }
     requires requests { HasRequests (reverse entries.now) rows.now }
-    ensures { result ≡ said_for (reverse entries.now) (work_of (reverse entries.now) h) }
+    ensures { (text : List ℕ) → result ≡ answer_to_host (reverse entries.now) h (Call.HostSaid text) }
 {
     said_at(
         is_work_over(entries, ports, rows, h),
@@ -160,7 +159,7 @@ pub fn host_said(entries: &[Entry], ports: &Ports, rows: &Requests, h: HostNo) -
 
 /// The answer to a host's end.
 pub fn host_ended(entries: &[Entry], h: HostNo) -> Answer
-    ensures { result ≡ cond (has_ended (reverse entries.now) h) Answer.Already Answer.Done }
+    ensures { (reason : Reason) → result ≡ answer_to_host (reverse entries.now) h (Call.HostEnded reason) }
 {
     if texts::has_ended(entries, h) {
         Answer::Already

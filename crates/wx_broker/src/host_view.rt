@@ -76,7 +76,8 @@ fn view_after(
     h: HostNo,
     was: Option<HostView>,
 ) -> Option<HostView>
-    ensures { result ≡ cond ((next == h.0) && is_some (starts (reverse before.now) e.now)) (view_of world.now (reverse entries.now) (starts (reverse before.now) e.now)) was }
+    ensures { result ≡ cond ((next == h.0) && is_some (starts (reverse before.now) e.now))
+        (view_of world.now (reverse entries.now) (starts (reverse before.now) e.now)) was }
 {
     if next == h.0 && hosts::starts(before, e) {
         view_of(world, entries, before, e)

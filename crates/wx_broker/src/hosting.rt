@@ -3,11 +3,10 @@ ghost use Rattle.std.specs.Prelude.{◌≡◌, ◌↔◌, ◌+◌, ◌<◌, ◌�
 ghost use Rattle.wx_machine.specs.Hosts.{hosts};
 ghost use Rattle.wx_machine.specs.Texts.{next_text, said_closed};
 ghost use Rattle.wx_machine.specs.Answers.{answer_of, is_host_ready};
-ghost use Rattle.wx_broker.specs.Carried.{text_told};
-ghost use Rattle.wx_broker.specs.Steps.{Appends, Stays};
+ghost use Rattle.wx_broker.specs.Steps.{Appends, KeepsNumbers, Stays};
+ghost use Rattle.wx_broker.specs.Tables.{text_told};
 ghost use Rattle.wx_broker.specs.Views.{host_view};
 
-use crate::carried::host_said;
 use crate::host_view::{HostView, host_view};
 use crate::{Broker, host_answers, tables};
 use wx_id::{EntryNo, HostNo, NoMemory};
@@ -22,22 +21,21 @@ impl Broker {
         ensures err { OnErr result (Stays self.old self.new) }
         ensures room { 0 < self.old.spare → IsOk result }
         ensures spare { self.old.spare ≤ self.new.spare + 1 }
+        ensures numbers { KeepsNumbers self.old.entries self.new.entries }
     {
+        self.journal.reserve(1)?;
         let answer = host_answers::host_take(
             self.journal.entries(),
             &self.ports,
             &self.requests,
             h,
         );
-        let e = Entry {
+        self.append(Entry {
             who: Who::Host(h),
             call: Call::HostTake,
             answer,
-        };
-        match self.append(e) {
-            Ok(()) => Ok(answer),
-            Err(_) => Err(NoMemory),
-        }
+        });
+        Ok(answer)
     }
 
     /// Host h wrote a message. The message comes back where memory was refused.
@@ -47,9 +45,12 @@ impl Broker {
         ensures ok { IfOk result (λ a. Appends self.old self.new (Who.Host h) (Call.HostSaid text) a) }
         ensures err { OnErr result (Stays self.old self.new) }
         ensures returned { IfErr result (λ back. back ≡ text) }
-        ensures room { 0 < self.old.spare → IsOk result }
         ensures spare { self.old.spare ≤ self.new.spare + 1 }
+        ensures numbers { KeepsNumbers self.old.entries self.new.entries }
     {
+        if self.journal.reserve(1).is_err() {
+            return Err(text);
+        }
         let work = hosts::work_of(self.journal.entries(), h);
         let answer = host_answers::host_said(
             self.journal.entries(),
@@ -57,18 +58,16 @@ impl Broker {
             &self.requests,
             h,
         );
-        let e = Entry {
-            who: Who::Host(h),
-            call: Call::HostSaid(text),
-            answer,
-        };
-        match self.journal.push(e) {
-            Ok(()) => {
-                tables::settle_work(&mut self.requests, work);
-                Ok(answer)
-            }
-            Err(e) => Err(host_said(e)),
-        }
+        tables::settle_work(&mut self.requests, work);
+        tables::push(
+            &mut self.journal,
+            Entry {
+                who: Who::Host(h),
+                call: Call::HostSaid(text),
+                answer,
+            },
+        );
+        Ok(answer)
     }
 
     /// Host h ended.
@@ -78,23 +77,23 @@ impl Broker {
         ensures err { OnErr result (Stays self.old self.new) }
         ensures room { 0 < self.old.spare → IsOk result }
         ensures spare { self.old.spare ≤ self.new.spare + 1 }
+        ensures numbers { KeepsNumbers self.old.entries self.new.entries }
     {
+        self.journal.reserve(1)?;
         let work = hosts::work_of(self.journal.entries(), h);
         let answer = host_answers::host_ended(self.journal.entries(), h);
-        let e = Entry {
-            who: Who::Host(h),
-            call: Call::HostEnded(reason),
-            answer,
-        };
-        match self.journal.push(e) {
-            Ok(()) => {
-                // Of one that ended before this does nothing.
-                tables::close_work(&mut self.ports, work);
-                tables::settle_work(&mut self.requests, work);
-                Ok(answer)
-            }
-            Err(_) => Err(NoMemory),
-        }
+        // Of one that ended before this does nothing.
+        tables::close_work(&mut self.ports, work);
+        tables::settle_work(&mut self.requests, work);
+        tables::push(
+            &mut self.journal,
+            Entry {
+                who: Who::Host(h),
+                call: Call::HostEnded(reason),
+                answer,
+            },
+        );
+        Ok(answer)
     }
 
     /// Whether a take of host h, which did not end, would now be answered with a text, or for the first time that none

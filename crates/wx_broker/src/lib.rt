@@ -4,16 +4,11 @@
 
 mod answers;
 mod broker;
-mod carried;
 mod host_answers;
-#[cfg(test)]
-mod host_tests;
 mod host_view;
 mod hosting;
 mod native;
 mod tables;
-#[cfg(test)]
-mod tests;
 
 pub use broker::Broker;
 pub use host_view::HostView;

@@ -3,9 +3,15 @@
 #![tactic(auto)]
 
 #[cfg(test)]
+mod calls;
+#[cfg(test)]
+mod host_plays;
+#[cfg(test)]
 mod journal_texts;
 #[cfg(test)]
 mod journals;
+#[cfg(test)]
+mod plays;
 #[cfg(test)]
 mod ports;
 #[cfg(test)]

@@ -14,4 +14,6 @@ fn types_cross_threads(_rt: HostRuntime) {
     crosses_threads::<wx_one_shot::Requests>();
     crosses_threads::<wx_one_shot::Standing>();
     crosses_threads::<wx_journal::Journal>();
+    crosses_threads::<wx_broker::Broker>();
+    crosses_threads::<wx_broker::HostView>();
 }

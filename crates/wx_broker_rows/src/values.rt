@@ -7,6 +7,9 @@ use wx_machine::{Answer, Call, Entry, JsonText, Who};
 /// The id of extension A.
 pub const A: &[u8] = b"aaaaaaaaaaaaaaaaaaaaaaaaaaaaaaaa";
 
+/// The id of extension B.
+pub const B: &[u8] = b"bbbbbbbbbbbbbbbbbbbbbbbbbbbbbbbb";
+
 /// The page of that extension at that path.
 pub fn page(alloc: Global, ext: &[u8], path: &str) -> Option<Context> {
     let ext = ExtensionId::read(ext).ok()?;

@@ -2,15 +2,7 @@
 #![tactic(auto)]
 
 mod endings;
-#[cfg(test)]
-mod helper_tests;
-#[cfg(test)]
-mod host_tests;
 mod judging;
-#[cfg(test)]
-mod manifest_tests;
-#[cfg(test)]
-mod message_tests;
 mod tell;
 #[cfg(test)]
 mod tests;

@@ -1,2 +1,3 @@
 pub mod WebUrlLemmas
 pub mod Vectors
+pub mod PathLemmas

@@ -1,3 +1,4 @@
+//! Contexts, what they listen to, and whom they call.
 ghost use Rattle.std.specs.Prelude.{◌≡◌, IfOk};
 
 use crate::paths::PagePath;

@@ -11,6 +11,3 @@ pub use contexts::{Context, Listens, Target};
 pub use paths::{PagePath, PathFault, are_printable, is_page_path};
 pub use senders::Sender;
 pub use urls::{UrlFault, WebUrl};
-
-#[cfg(test)]
-mod tests;

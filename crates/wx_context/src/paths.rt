@@ -1,3 +1,4 @@
+//! The paths of pages.
 ghost use Rattle.std.specs.Prelude.{◌≡◌, IsTrue, IfOk, false};
 ghost use Rattle.wx_context.specs.Paths as paths;
 

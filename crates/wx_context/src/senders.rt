@@ -1,3 +1,4 @@
+//! What a receiver is told of its caller.
 ghost use Rattle.std.specs.Prelude.{◌≡◌, IfOk};
 ghost use Rattle.wx_context.specs.Senders.{page_url, sender_of};
 
@@ -21,12 +22,9 @@ pub struct Sender {
 fn page_url(alloc: Global, ext: &ExtensionId, path: &PagePath) -> Result<Utf8Text, NoMemory>
     ensures { IfOk result (λ url. url ≡ page_url ext.now path.now) }
 {
-    let Ok(mut text) = String::from_str(alloc, "chrome-extension://") else {
-        return Err(NoMemory);
-    };
-    if text.push_str(ext.text()).is_err() || text.push_str(path.text()).is_err() {
-        return Err(NoMemory);
-    }
+    let mut text = String::from_str(alloc, "chrome-extension://")?;
+    text.push_str(ext.text())?;
+    text.push_str(path.text())?;
     Utf8Text::new(alloc, text.as_str())
 }
 

@@ -1,3 +1,4 @@
+//! The addresses of documents on the web.
 ghost use Rattle.std.specs.Prelude.{◌≡◌, ◌≤◌, IfOk, IsTrue, None, Some, Ok, length};
 ghost use Rattle.url.specs.Parser.{parse_url};
 ghost use Rattle.url.specs.Parts.{serialize};
@@ -86,9 +87,7 @@ impl WebUrl {
     pub fn try_clone(&self) -> Result<WebUrl, NoMemory>
         ensures { IfOk result (λ copy. copy ≡ self.now) }
     {
-        match self.url.clone() {
-            Ok(url) => Ok(WebUrl { url }),
-            Err(_) => Err(NoMemory),
-        }
+        let url = self.url.clone()?;
+        Ok(WebUrl { url })
     }
 }

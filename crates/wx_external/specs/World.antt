@@ -10,6 +10,10 @@ pub record WorldLists : Type 0 where
   pub extensions : List Installed
   pub hosts : List Host
 
+-- the world that holds nothing
+abbrev pub empty_world : WorldLists
+empty_world = record { extensions = []; hosts = [] }
+
 -- no two have one key
 abbrev pub are_apart : {X : Type 0} → (X → List ℕ) → List X → Bool
 are_apart key [] = true

@@ -1,3 +1,4 @@
+//! The gate that a call to another context passes.
 ghost use Rattle.std.specs.Prelude.{◌≡◌, bytes_eq};
 ghost use Rattle.wx_external.specs.Gate as spec;
 ghost use Rattle.wx_external.specs.World.{manifest_of};
@@ -46,16 +47,10 @@ fn admits_page(world: &World, id: &ExtensionId, url: &WebUrl) -> bool
     }
 }
 
-fn same_extension(a: &ExtensionId, b: &ExtensionId) -> bool
-    ensures { result ≡ bytes_eq a.now b.now }
-{
-    *a == *b
-}
-
 fn own_or_other(ext: &ExtensionId, id: &ExtensionId) -> Target
     ensures { result ≡ spec.own_or_other ext.now id.now }
 {
-    if same_extension(id, ext) {
+    if id.is(ext) {
         Target::Own
     } else {
         Target::Other(*id)

@@ -1,3 +1,4 @@
+//! The laws of the gates, and verdicts worked out.
 ghost use Rattle.std.specs.Prelude.{◌↔◌, IsTrue};
 ghost use Rattle.url.specs.Parts.{Parts};
 ghost use Rattle.wx_match_pattern.specs.Pattern.{PatternParts};

@@ -11,6 +11,3 @@ pub use gates::{Rule, Verdict, gate, meant};
 pub use laws::{match_test, native_verdicts_in_order, verdicts_by_manifest, verdicts_of_any_world};
 pub use native::{NativeVerdict, native_gate};
 pub use world::{AddFault, Installed, World};
-
-#[cfg(test)]
-mod tests;

@@ -1,3 +1,4 @@
+//! The gate that a call to a native host passes.
 ghost use Rattle.std.specs.Prelude.{◌≡◌, option_copied};
 ghost use Rattle.wx_external.specs.Gate as spec;
 ghost use Rattle.wx_external.specs.World.{manifest_of};

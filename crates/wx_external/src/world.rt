@@ -1,3 +1,4 @@
+//! The extensions and native hosts that the broker knows.
 ghost use Rattle.wx_external.specs.World as spec;
 ghost use Rattle.std.specs.Prelude.{◌≡◌, ◌↔◌, ◌++◌, ◌∷◌, [], IsTrue, IfErr, OnOk, OnErr, IsErrAnd, option_copied, slice_get};
 
@@ -59,8 +60,7 @@ fn has_name(host: &HostManifest, name: &str) -> bool
 impl World {
     /// The world that holds nothing.
     pub fn new(alloc: Global) -> World
-        ensures extensions { result.extensions ≡ [] }
-        ensures hosts { result.hosts ≡ [] }
+        ensures { result ≡ spec.empty_world }
     {
         World {
             extensions: Vec::new(alloc),

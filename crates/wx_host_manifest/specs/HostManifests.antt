@@ -1,11 +1,13 @@
 -- What a native host's manifest holds (Chrome's "Native messaging", "Native messaging host").
 use Rattle.std.specs.Prelude.{ℕ, Bool, true, false, not, ◌==◌, List, [], ◌∷◌, ◌++◌, Option, Some, None, Result, Ok, Err, codes, ⊤}
 use Rattle.std.specs.List.{list_any, position_from}
+use Rattle.std.specs.Option.{ok_or}
 use Rattle.std.specs.Str.{bytes_eq}
 use Rattle.serde_json.specs.Data.{Data}
 use Rattle.serde_json.specs.Find.{get, as_str}
 use Rattle.wx_id.specs.HostNames.{host_name_fault}
-use Rattle.wx_manifest_tree.specs.Tree.{object_of, required, as_texts}
+use Rattle.wx_id.specs.Results.{◌>>=◌, told_as}
+use Rattle.wx_manifest_tree.specs.Tree.{object_of, required, as_texts, no_place}
 use Rattle.wx_manifest_tree.specs.declared.KeyFault.{KeyFault}
 use Rattle.wx_manifest_tree.specs.declared.KeyFault.TheVariants as at
 use Rattle.wx_host_manifest.specs.Origins.{origin_of, is_origin}
@@ -19,11 +21,6 @@ pub record Host : Type 0 where
   pub name : List ℕ
   pub path : List ℕ
   pub origins : List (List ℕ)
-
-infixl 10 ◌>>=◌
-abbrev pub ◌>>=◌ : {A B : Type 0} → Result A HostFault → (A → Result B HostFault) → Result B HostFault
-(Ok x) >>= f = f x
-(Err fault) >>= f = Err fault
 
 abbrev pub test : Bool → HostFault → Result ⊤ HostFault
 test true fault = Ok tt
@@ -42,16 +39,11 @@ fault_at key at.WrongKind = WrongKind key
 
 -- what stands under the key, or its fault
 abbrev pub under : {A : Type 0} → HostKey → Result A KeyFault → Result A HostFault
-under key (Ok x) = Ok x
-under key (Err fault) = Err (fault_at key fault)
+under key = told_as (fault_at key)
 
 -- there and a string
 unfoldable pub text_of : HostKey → Data → Result (List ℕ) HostFault
 text_of key d = under key (required as_str (get (key_name key) d))
-
-abbrev pub no_place : Option ℕ → (ℕ → HostFault) → Result ⊤ HostFault
-no_place None fault = Ok tt
-no_place (Some place) fault = Err (fault place)
 
 -- `name`: a string, a host name, and the file is `NAME.json`
 unfoldable pub name_of : List ℕ → Data → Result (List ℕ) HostFault
@@ -95,18 +87,16 @@ host_in file d = do
   origins ← origins_of d
   Ok record { name = name; path = path; origins = origins }
 
-abbrev pub if_object : Option Data → (Data → Result Host HostFault) → Result Host HostFault
-if_object None holds = Err NotJson
-if_object (Some d) holds = holds d
-
 -- what the manifest in the file of that name holds, or the first test that fails
 unfoldable pub host_of : List ℕ → List ℕ → Result Host HostFault
-host_of file bytes = if_object (object_of bytes) (host_in file)
+host_of file bytes = do
+  d ← ok_or (object_of bytes) NotJson
+  host_in file d
 
 -- the extension with this id may start the host
 abbrev pub admits : Host → List ℕ → Bool
 admits host id = list_any (λ origin. bytes_eq origin (origin_of id)) host.origins
 
--- the words that a host is started with behind its path
+-- the words that a host is started with after its path
 abbrev pub arguments_of : List ℕ → List (List ℕ)
 arguments_of id = origin_of id ∷ []

@@ -7,7 +7,7 @@ use Rattle.wx_id.specs.Ids.{is_extension_id}
 abbrev pub origin_of : List ℕ → List ℕ
 origin_of id = codes "chrome-extension://" ++ (id ++ codes "/")
 
--- the 32 bytes behind the scheme
+-- the 32 bytes after the scheme
 abbrev pub id_in : List ℕ → List ℕ
 id_in text = take 32 (drop 19 text)
 

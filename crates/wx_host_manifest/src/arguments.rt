@@ -1,3 +1,4 @@
+//! What a host is started with.
 ghost use Rattle.std.specs.Prelude.{◌≡◌, length, option_map, slice_get, IfOk};
 
 use crate::origin::write_origin;
@@ -5,7 +6,7 @@ use std::alloc::Global;
 use std::marker::Model;
 use wx_id::{ExtensionId, NoMemory};
 
-/// The words that a host is started with behind its path. Contracts see the list of their texts.
+/// The words that a host is started with after its path. Contracts see the list of their texts.
 #[derive(Debug, Drop)]
 pub struct Arguments {
     texts: Vec<String>,
@@ -27,10 +28,8 @@ impl Arguments {
     {
         let origin = write_origin(alloc, caller)?;
         let mut texts = Vec::new(alloc);
-        match texts.push(origin) {
-            Ok(()) => Ok(Arguments { texts }),
-            Err(_) => Err(NoMemory),
-        }
+        texts.push(origin)?;
+        Ok(Arguments { texts })
     }
 
     /// How many there are.

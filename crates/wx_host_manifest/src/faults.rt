@@ -1,3 +1,4 @@
+//! The keys of a host's manifest, and why it is refused.
 ghost use Rattle.std.specs.Prelude.{◌≡◌};
 
 /// A key of a host's manifest.

@@ -1,4 +1,4 @@
-// What stands under each key, and the test that it has to pass.
+//! What stands under each key, and the test that it has to pass.
 ghost use Rattle.std.specs.Prelude.{◌≡◌, not, ◌++◌, codes, IfOk, IsTrue};
 ghost use Rattle.std.specs.List.{list_all, position_from};
 ghost use Rattle.std.specs.Str.{bytes_eq};

@@ -11,6 +11,3 @@ mod parts;
 pub use arguments::Arguments;
 pub use faults::{HostFault, HostKey};
 pub use manifest::HostManifest;
-
-#[cfg(test)]
-mod tests;

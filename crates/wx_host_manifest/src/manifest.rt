@@ -1,3 +1,4 @@
+//! The manifest of a native host.
 ghost use Rattle.std.specs.Prelude.{◌≡◌, ◌≢◌, map, IfOk, IfErr, IsTrue};
 ghost use Rattle.std.specs.List.{list_all};
 ghost use Rattle.wx_host_manifest.specs.Origins.{origin_of, is_origin};
@@ -41,9 +42,7 @@ fn callers_of(alloc: Global, origins: &Texts<'_>) -> Result<Vec<ExtensionId>, No
         let Some(caller) = read_origin(origins.at(place)) else {
             unreachable!()
         };
-        if callers.push(caller).is_err() {
-            return Err(NoMemory);
-        }
+        callers.push(caller)?;
     }
     Ok(callers)
 }
@@ -112,7 +111,7 @@ impl HostManifest {
         self.callers.contains(id)
     }
 
-    /// The words that the host is started with behind its path, for this caller.
+    /// The words that the host is started with after its path, for this caller.
     pub fn arguments(&self, alloc: Global, caller: &ExtensionId) -> Result<Arguments, NoMemory>
         ensures { IfOk result (λ arguments. arguments ≡ arguments_of caller.now) }
     {

@@ -1,3 +1,4 @@
+//! The origin of an extension, read and written.
 ghost use Rattle.std.specs.Prelude.{◌≡◌, IfOk, string_bytes};
 ghost use Rattle.wx_host_manifest.specs.Origins.{origin_of, caller_of};
 
@@ -26,11 +27,8 @@ pub(crate) fn read_origin(text: &str) -> Option<ExtensionId>
 pub(crate) fn write_origin(alloc: Global, id: &ExtensionId) -> Result<String, NoMemory>
     ensures { IfOk result (λ text. string_bytes text ≡ origin_of id.now) }
 {
-    let Ok(mut text) = String::from_str(alloc, SCHEME) else {
-        return Err(NoMemory);
-    };
-    if text.push_str(id.text()).is_err() || text.push_str("/").is_err() {
-        return Err(NoMemory);
-    }
+    let mut text = String::from_str(alloc, SCHEME)?;
+    text.push_str(id.text())?;
+    text.push_str("/")?;
     Ok(text)
 }

@@ -1,3 +1,4 @@
+//! What a host's manifest holds, as it lies in the tree.
 ghost use Rattle.std.specs.Prelude.{◌≡◌};
 ghost use Rattle.serde_json.specs.View.{view};
 

@@ -10,7 +10,7 @@ use Rattle.std.proofs.lemmas.Str.{IsUtf8-from_ascii}
 use Rattle.std.proofs.lemmas.Str.Ascii.{IsAscii-from_all}
 use Rattle.wx_id.specs.HostNames.{is_word_byte, is_dot, dots_stand_apart, is_host_name, IsHostNameFault, may_stand, fault_from, host_name_fault}
 
--- what a host name owes behind its first n bytes
+-- what a host name owes after its first n bytes
 record Owes (n : ℕ) (edge : Bool) (text : List ℕ) : Type 0 where
   fits : n + length text ≤ 250
   bytes : list_all (λ b. is_word_byte b || is_dot b) text ≡ true

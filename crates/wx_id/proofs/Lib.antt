@@ -1,5 +1,6 @@
 pub mod ContextLemmas
 pub mod HostNameLemmas
 pub mod IdLemmas
+pub mod OptionLemmas
 pub mod ListLemmas
 pub mod ByContextLemmas

@@ -9,7 +9,7 @@ is_word_byte b = (nat_le 97 b && nat_le b 122) || (nat_le 48 b && nat_le b 57) |
 abbrev pub is_dot : ℕ → Bool
 is_dot b = b == 46
 
--- each dot has a byte that is none ahead of it and behind it; `edge`: the start or a dot stands just ahead
+-- each dot has a byte that is none before it and after it; `edge`: the start or a dot stands just ahead
 abbrev pub dots_stand_apart : Bool → List ℕ → Bool
 dots_stand_apart edge [] = not edge
 dots_stand_apart edge (b ∷ rest) = not (edge && is_dot b) && dots_stand_apart (is_dot b) rest

@@ -1,6 +1,7 @@
 //! Extension ids.
 ghost use Rattle.std.specs.Prelude.{◌≡◌, ◌↔◌, IsTrue, IsOk, IfOk, IfErr};
 ghost use Rattle.std.specs.List.{prefix_len};
+ghost use Rattle.std.specs.Str.{bytes_eq};
 ghost use Rattle.wx_id.specs.Ids as ids;
 
 use std::marker::Model;
@@ -66,6 +67,13 @@ impl ExtensionId {
         let mut letters = [0u8; 32];
         letters.copy_from_slice(text);
         Ok(ExtensionId { letters })
+    }
+
+    /// Whether the two are one id.
+    pub fn is(&self, other: &ExtensionId) -> bool
+        ensures { result ≡ bytes_eq self.now other.now }
+    {
+        self.letters == other.letters
     }
 
     /// Its 32 letters.

@@ -33,7 +33,8 @@ pub enum HostNameFault {
     NoMemory,
 }
 
-fn is_word_byte(byte: u8) -> bool
+/// Whether the byte is a lower-case letter, a digit or `_`.
+pub fn is_word_byte(byte: u8) -> bool
     ensures { result ≡ names.is_word_byte byte }
 {
     byte.is_ascii_lowercase() || byte.is_ascii_digit() || byte == b'_'
@@ -96,56 +97,5 @@ impl HostName {
         ensures sort { IsTrue (names.is_host_name self.now) }
     {
         self.text.as_str()
-    }
-}
-
-#[cfg(test)]
-mod tests {
-    use super::{HostName, HostNameFault};
-    use std::test::Fail;
-
-    #[test]
-    fn places_of_host_names(rt: HostRuntime) {
-        let table = [
-            ("a", None),
-            ("a.b_1", None),
-            ("com.example.echo", None),
-            ("0", None),
-            (".a", Some(0)),
-            ("a..b", Some(2)),
-            ("A", Some(0)),
-            ("a.", Some(2)),
-            ("", Some(0)),
-            ("a-b", Some(1)),
-            ("a b", Some(1)),
-            ("abc.é", Some(4)),
-        ];
-        for (text, place) in table {
-            assert_eq!(rt; HostName::fault(text.as_bytes()), place);
-        }
-    }
-
-    #[test]
-    fn the_last_place_of_a_host_name(rt: HostRuntime) {
-        let mut bytes = [b'a'; 251];
-        assert_eq!(rt; HostName::fault(&bytes[..250]), None);
-        assert_eq!(rt; HostName::fault(&bytes), Some(250));
-        bytes[249] = b'.';
-        assert_eq!(rt; HostName::fault(&bytes[..250]), Some(249));
-        assert_eq!(rt; HostName::fault(&bytes), Some(249));
-        assert_eq!(rt; HostName::fault(&bytes[..249]), None);
-        bytes[248] = b'.';
-        assert_eq!(rt; HostName::fault(&bytes[..249]), Some(249));
-    }
-
-    #[test]
-    fn host_names_are_read(rt: HostRuntime) -> Result<(), Fail> {
-        let name = HostName::read(rt.alloc(), b"a.b_1")?;
-        assert_eq!(rt; name.text(), "a.b_1");
-        match HostName::read(rt.alloc(), b"a..b") {
-            Ok(_) => assert!(rt; false),
-            Err(fault) => assert_eq!(rt; fault, HostNameFault::BadHostName { place: 2 }),
-        }
-        Ok(())
     }
 }

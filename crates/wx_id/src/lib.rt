@@ -6,13 +6,11 @@ mod events;
 mod extension;
 mod host_name;
 mod numbers;
-#[cfg(test)]
-mod tests;
 mod texts;
 
 pub use contexts::{is_among, take_out};
 pub use events::{End, Event, EventKind};
 pub use extension::{BadId, ExtensionId};
-pub use host_name::{HostName, HostNameFault};
+pub use host_name::{HostName, HostNameFault, is_word_byte};
 pub use numbers::{ChannelNo, ContextNo, EntryNo, FrameId, HostNo, RequestNo, TabId};
 pub use texts::{NoMemory, Utf8Text};

@@ -128,7 +128,8 @@ impl Journal {
 
     /// The JSON text that the entry's call carries, where there is such an entry and it carries one.
     pub fn text_of(&self, e: EntryNo) -> Option<&JsonText>
-        ensures { option_copied result ≡ option_and_then (λ entry. text_in entry.call) (slice_get self.now.entries e.0) }
+        ensures { option_copied result
+            ≡ option_and_then (λ entry. text_in entry.call) (slice_get self.now.entries e.0) }
     {
         match self.entries.get(e.0 as usize) {
             Some(entry) => text_of_call(&entry.call),
@@ -147,9 +148,12 @@ impl Journal {
     /// messaging hold of the channel, with the entry that the report says closed it.
     pub fn port_report(&self, k: ChannelNo) -> Option<PortReport>
         ensures value { result ≡ port_report (reverse self.now.entries) k.0 }
-        ensures laws { (world : WorldLists) → IsLegal world self.now.entries → IfSome result (λ report. KeepsChannel self.now.entries k.0 (option_map (λ n. n.0) report.closed)) }
-        ensures given { (world : WorldLists) → IsLegal world self.now.entries → IfSome result (λ report. report.posted ≡ given_on (reverse self.now.entries) k.0) }
-        ensures taken { (world : WorldLists) → IsLegal world self.now.entries → IfSome result (λ report. report.taken ≡ taken_on (reverse self.now.entries) k.0) }
+        ensures laws { (world : WorldLists) → IsLegal world self.now.entries
+            → IfSome result (λ report. KeepsChannel self.now.entries k.0 (option_map (λ n. n.0) report.closed)) }
+        ensures given { (world : WorldLists) → IsLegal world self.now.entries
+            → IfSome result (λ report. report.posted ≡ given_on (reverse self.now.entries) k.0) }
+        ensures taken { (world : WorldLists) → IsLegal world self.now.entries
+            → IfSome result (λ report. report.taken ≡ taken_on (reverse self.now.entries) k.0) }
     {
         port_report(self.entries(), k)
     }
@@ -165,8 +169,10 @@ impl Journal {
 
     /// Reads the journal whose text the bytes are. Whether the broker would answer so is not asked.
     pub fn read(alloc: Global, bytes: &[u8]) -> Result<Journal, JournalReadFault>
-        ensures found { IfOk result (λ journal. JournalFits journal.entries × (bytes.now ≡ journal_text journal.entries)) }
-        ensures only { (entries : List Entry) → JournalFits entries → bytes.now ≡ journal_text entries → GivesWhole (λ journal. journal.entries) result (Ok entries) }
+        ensures found { IfOk result (λ journal. JournalFits journal.entries
+            × (bytes.now ≡ journal_text journal.entries)) }
+        ensures only { (entries : List Entry) → JournalFits entries → bytes.now ≡ journal_text entries
+            → GivesWhole (λ journal. journal.entries) result (Ok entries) }
         ensures fault { IfBad result (IsFault bytes.now) }
     {
         match read(alloc, bytes) {
@@ -183,9 +189,7 @@ impl Journal {
     {
         fits::journal(&self.entries);
         different_texts();
-        match print(alloc, &self.entries) {
-            Ok(text) => Ok(text),
-            Err(_) => Err(NoMemory),
-        }
+        let text = print(alloc, &self.entries)?;
+        Ok(text)
     }
 }

@@ -8,12 +8,14 @@ ghost use Rattle.wx_journal_read.specs.Fits.{EntryFits, JournalFits};
 
 /// Different journals have different texts.
 pub fn different_texts()
-    ensures { (j k : List Entry) → JournalFits j → JournalFits k → length (journal_text j) < 2 ^ 64 → journal_text j ≡ journal_text k → j ≡ k }
+    ensures { (j k : List Entry) → JournalFits j → JournalFits k → length (journal_text j) < 2 ^ 64
+        → journal_text j ≡ journal_text k → j ≡ k }
 {}
 
 /// No entry's line begins another.
 pub fn no_line_begins_another()
-    ensures { (e f : Entry) (x y : List ℕ) → EntryFits e → EntryFits f → length (entry_text e ++ x) < 2 ^ 64 → entry_text e ++ x ≡ entry_text f ++ y → (e ≡ f) × (x ≡ y) }
+    ensures { (e f : Entry) (x y : List ℕ) → EntryFits e → EntryFits f → length (entry_text e ++ x) < 2 ^ 64
+        → entry_text e ++ x ≡ entry_text f ++ y → (e ≡ f) × (x ≡ y) }
 {}
 
 /// Worked examples of faults: a line without its line feed, a number with a leading zero, and no head line.

@@ -80,7 +80,8 @@ pub fn read(alloc: Global, bytes: &[u8]) -> Result<Vec<Entry>, JournalReadFault>
     // what is read is spelled so
     ensures found { IfOk result (λ list. JournalFits list.items × (bytes.now ≡ journal_text list.items)) }
     // what is spelled so is read, unless memory ran out
-    ensures only { (journal : List Entry) → JournalFits journal → bytes.now ≡ journal_text journal → GivesWhole (λ list. list.items) result (Ok journal) }
+    ensures only { (journal : List Entry) → JournalFits journal → bytes.now ≡ journal_text journal
+        → GivesWhole (λ list. list.items) result (Ok journal) }
     // which fault it is
     ensures fault { IfBad result (IsFault bytes.now) }
 {

@@ -183,7 +183,8 @@ fn put_document(
     frame: FrameId,
     url: &WebUrl,
 ) -> Result<(), AllocError>
-    ensures { OnOk result (out.new.items ≡ out.old.items ++ (codes " " ++ (decimal tab.0 ␣ decimal frame.0 ␣ sized url.now))) }
+    ensures { OnOk result (out.new.items
+        ≡ out.old.items ++ (codes " " ++ (decimal tab.0 ␣ decimal frame.0 ␣ sized url.now))) }
 {
     put_next(out, tab.0 as u64)?;
     put_next(out, frame.0 as u64)?;

@@ -146,7 +146,7 @@ fraction_back n c t σ h = if_byte (λ c. (r : List ℕ) × Fraction (c ∷ t) r
 word_more : (b : ℕ) (w : List ℕ) (n : ℕ) (t : List ℕ) (σ : List Bool) → (r : List ℕ) × Word w t r × After n σ r → (r : List ℕ) × Word (b ∷ w) (b ∷ t) r × After n σ r
 word_more b w n t σ (r, ws, a) = (r, byte ws, a)
 
--- What a place waits for behind a byte is, with the byte, what it waited for.
+-- What a place waits for after a byte is, with the byte, what it waited for.
 pub back : (n c : ℕ) (t : List ℕ) (m : Mode) (σ : List Bool) → In (next m n σ c) t → Waits m n σ (c ∷ t)
 unfolding next
 back _ _ _ value σ h = if_test h (λ p x. white-ValueNext _ _ _ σ p (out x)) (λ x. begins _ _ σ (begin_back _ _ _ σ x))

@@ -1,7 +1,7 @@
 -- The automaton over UTF-8: it agrees with RFC 3629's grammar.
 use Rattle.std.proofs.Common.{◌≡◌, ℕ, zero, suc, ◌<◌, ◌≤◌, List, [], ◌∷◌, ◌++◌, Bool, true, false, refl, subst, arith, lit<}
 use Rattle.std.specs.Prelude.{cond, ◌&&◌, nat_le}
-use Rattle.std.proofs.lemmas.Bool.{leb-true}
+use Rattle.std.proofs.lemmas.Bool.{leb-true, and_parts}
 use Rattle.wx_json.specs.Json.{is_between}
 use Rattle.wx_json.specs.Coding.{lead, code, codes}
 use Rattle.wx_json.specs.Coding.{Coding}
@@ -24,12 +24,8 @@ no : {b : Bool} (x : Coding) {y : Coding} {t : List ℕ} → b ≡ false → Cod
 no {b = true} z p h = cc
 no {b = false} z p h = h
 
-and_cases : (a b : Bool) → (a && b) ≡ true → (a ≡ true) × (b ≡ true)
-and_cases true b p = (refl, p)
-and_cases false b p = cc
-
 pub bounds : (low high c : ℕ) → is_between low high c ≡ true → (low ≤ c) × (c ≤ high)
-bounds low high c p = let q = and_cases (nat_le low c) (nat_le c high) p in (leb-true low c q.0, leb-true c high q.1)
+bounds low high c p = let q = and_parts (nat_le low c) (nat_le c high) p in (leb-true low c q.0, leb-true c high q.1)
 
 -- a byte of one range is in no range above or below it
 pub unless : (b : Bool) → (b ≡ true → b ≡ false) → b ≡ false

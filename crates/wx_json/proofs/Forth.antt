@@ -60,7 +60,7 @@ Value-first P c n t r pd pf pn pt p0 pm pq pa po (array es) = pa
 Value-first P c n t r pd pf pn pt p0 pm pq pa po (empty_object w) = po
 Value-first P c n t r pd pf pn pt p0 pm pq pa po (object ms) = po
 
--- the first byte behind a value
+-- the first byte after a value
 After-first : (P : ℕ → Type 0) (c n : ℕ) (t : List ℕ) (σ : List Bool) → ((c : ℕ) → is_white c ≡ true → P c) → P 0x2C → P 0x5D → P 0x7D → After n σ (c ∷ t) → P c
 After-first P c n t [] pw p1 p2 p3 (white p w) = pw c p
 After-first P c n t (false ∷ σ) pw p1 p2 p3 (r, end_array (white p w), a) = pw c p

@@ -2,7 +2,7 @@
 use Rattle.std.proofs.Common.{◌≡◌, ◌≢◌, ℕ, zero, suc, ◌+◌, ◌<◌, ◌≤◌, List, [], ◌∷◌, take, Bool, true, false, not, refl, ap, ◌∙◌, sym, arith, add-zero, inl, inr}
 use Rattle.std.specs.Prelude.{◌==◌, ◌||◌, ◌&&◌, nat_lt, nat_le, cond}
 use Rattle.std.specs.List.{prefix_len}
-use Rattle.std.proofs.lemmas.Bool.{le-leb, eqb-false, leb-false, cases_lt}
+use Rattle.std.proofs.lemmas.Bool.{le-leb, or_left, or_right, eqb-false, leb-false, cases_lt}
 use Rattle.wx_json.specs.Json.{is_between, is_unescaped}
 use Rattle.wx_json.specs.Plain.{is_plain}
 use Rattle.wx_json.specs.Coding.{code}
@@ -25,14 +25,6 @@ both : (a b : Bool) → a ≡ true → b ≡ true → (a && b) ≡ true
 both true b p q = q
 both false b p q = cc
 
-left : (a b : Bool) → a ≡ true → (a || b) ≡ true
-left true b p = refl
-left false b p = cc
-
-right : (a b : Bool) → b ≡ true → (a || b) ≡ true
-right true b p = refl
-right false b p = p
-
 pub between : (low high c : ℕ) → low ≤ c → c ≤ high → is_between low high c ≡ true
 between low high c p q = both _ _ (le-leb low c p) (le-leb c high q)
 
@@ -51,10 +43,10 @@ plain c h =
 
 unescaped : (c : ℕ) → Plain c → is_unescaped c ≡ true
 unescaped c p = elim (cases_lt c 34) [
-  | inl lt ↦ left _ _ (left _ _ (between 0x20 0x21 c p.high (omega arith)))
+  | inl lt ↦ or_left _ _ (or_left _ _ (between 0x20 0x21 c p.high (omega arith)))
   | inr ge ↦ elim (cases_lt c 92) [
-    | inl lt ↦ left _ _ (right _ _ (between 0x23 0x5B c (omega (arith, p.no_quote)) (omega arith)))
-    | inr ge2 ↦ right _ _ (le-leb 0x5D c (omega (arith, p.no_escape)))
+    | inl lt ↦ or_left _ _ (or_right _ _ (between 0x23 0x5B c (omega (arith, p.no_quote)) (omega arith)))
+    | inr ge2 ↦ or_right _ _ (le-leb 0x5D c (omega (arith, p.no_escape)))
   ]
 ]
 

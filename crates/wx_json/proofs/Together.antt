@@ -16,7 +16,7 @@ use Rattle.wx_json.proofs.High.{high, text_high, unescaped_high}
 use Rattle.wx_json.specs.Mode.{Mode}
 use Rattle.wx_json.specs.Mode.{value, array_start, object_start, key, colon, after, text, escape, hex, minus, zero_digit, digits, point, decimals, e, e_sign, power, t1, t2, t3, f1, f2, f3, f4, n1, n2, n3}
 
--- a range of bytes behind the first of a character
+-- a range of bytes after the first of a character
 pub data Valid : Coding → Type 0 where
   valid_whole : Valid whole
   valid_wants : {low high n : ℕ} → 0x80 ≤ low → low ≤ high → Valid (wants low high n)

@@ -6,7 +6,7 @@ use Rattle.wx_json.specs.Machine.{State, at}
 use Rattle.wx_json.specs.Mode.{Mode}
 use Rattle.wx_json.specs.Mode.{value, array_start, object_start, key, colon, after, text, escape, hex, minus, zero_digit, digits, point, decimals, e, e_sign, power, t1, t2, t3, f1, f2, f3, f4, n1, n2, n3}
 
--- behind a value in these containers
+-- after a value in these containers
 abbrev pub After : ℕ → List Bool → List ℕ → Type 0
 After n [] t = White t []
 After n (false ∷ σ) t = (r : List ℕ) × MoreElements t n r × After (suc n) σ r

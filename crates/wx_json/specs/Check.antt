@@ -15,7 +15,7 @@ pub data Progress : Type 0 where
   running : ℕ → Coding → Mode → ℕ → List Bool → Progress
   failed : JsonFault → Progress
 
--- behind a byte that leads the grammar's automaton there, and that of UTF-8 to u
+-- after a byte that leads the grammar's automaton there, and that of UTF-8 to u
 abbrev pub moved : ℕ → Coding → State → Progress
 moved k u (dead true) = failed (record { place = k; kind = TooDeep })
 moved k u (dead false) = failed (record { place = k; kind = Syntax })

@@ -3,13 +3,13 @@ use Rattle.std.specs.Prelude.{ℕ, zero, suc, List, [], ◌∷◌, cond}
 use Rattle.wx_json.specs.Json.{is_between}
 
 -- Between two characters; or inside one, where the next byte is to lie from the first number to the second and so many follow it;
--- or behind a byte that no UTF-8 text has there.
+-- or after a byte that no UTF-8 text has there.
 pub data Coding : Type 0 where
   whole : Coding
   wants : ℕ → ℕ → ℕ → Coding
   broken : Coding
 
--- behind the first byte of a character
+-- after the first byte of a character
 abbrev pub lead : ℕ → Coding
 lead c =
     cond (is_between 0x00 0x7F c) whole
@@ -23,7 +23,7 @@ lead c =
     (cond (is_between 0xF4 0xF4 c) (wants 0x80 0x8F 2)
     broken))))))))
 
--- behind one more byte
+-- after one more byte
 unfoldable pub code : Coding → ℕ → Coding
 code whole c = lead c
 code (wants low high zero) c = cond (is_between low high c) whole broken

@@ -2,18 +2,18 @@
 use Rattle.std.specs.Prelude.{ℕ, Bool}
 
 pub data Mode : Type 0 where
-  -- a value comes; what stands behind [ and behind {; a member's name comes; its colon comes; a value has ended
+  -- a value comes; what stands after [ and after {; a member's name comes; its colon comes; a value has ended
   value : Mode
   array_start : Mode
   object_start : Mode
   key : Mode
   colon : Mode
   after : Mode
-  -- in a string; behind its reverse solidus; before a hex digit behind which so many follow
+  -- in a string; after its reverse solidus; before a hex digit after which so many follow
   text : Bool → Mode
   escape : Bool → Mode
   hex : ℕ → Bool → Mode
-  -- behind the parts of a number
+  -- after the parts of a number
   minus : Mode
   zero_digit : Mode
   digits : Mode
@@ -22,7 +22,7 @@ pub data Mode : Type 0 where
   e : Mode
   e_sign : Mode
   power : Mode
-  -- behind so many letters of true, false and null
+  -- after so many letters of true, false and null
   t1 : Mode
   t2 : Mode
   t3 : Mode

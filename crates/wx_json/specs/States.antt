@@ -23,7 +23,7 @@ modes =
 unfoldable pub mode_of : ℕ → Mode
 mode_of s = get_or modes (s - 0x40) value
 
--- T, U and V are inside a character of which one, two and three bytes are left, E, D, F and G behind E0, ED, F0 and F4.
+-- T, U and V are inside a character of which one, two and three bytes are left, E, D, F and G after E0, ED, F0 and F4.
 -- Small letters are for the same places in a string that is no name.
 unfoldable pub coding_of : ℕ → Coding
 coding_of s =
@@ -118,6 +118,6 @@ Leads from to bytes count = (σ : List Bool) → LeadsAt σ from to bytes count
 abbrev pub Asks : ℕ → ℕ → ℕ → Type 0
 Asks x s c = (k n : ℕ) (σ : List Bool) → entered x (running k (coding_of s) (mode_of s) n σ) ≡ advance (running k (coding_of s) (mode_of s) n σ) c
 
--- Where this is a state, it is that behind a comma with these containers open.
+-- Where this is a state, it is that after a comma with these containers open.
 abbrev pub CommaLeads : ℕ → List Bool → Type 0
 CommaLeads s σ = 64 ≤ s → (k n : ℕ) (u : Coding) (m : Mode) → separated (running k u m n σ) ≡ went s (running k u m n σ)

@@ -1,3 +1,4 @@
+//! The check of a JSON text that comes in pieces.
 ghost use Rattle.std.specs.Prelude.{◌≡◌, ℕ, ◌+◌, ◌*◌, ◌-◌, ◌^◌, ◌<◌, ◌≤◌, ◌++◌, Bool, true, length, List, [], MatchResult, take, drop, get_or};
 ghost use Rattle.wx_json.specs.Text.{IsJsonText, IsPrefixOfJson, IsFault, IsEndFault};
 ghost use Rattle.wx_json.specs.States.{is_state, is_end, CommaLeads, coding_of, entered, went, opened, closed_empty, closed, separated, refused};
@@ -128,7 +129,7 @@ impl JsonCheck {
         }
     }
 
-    /// Takes bytes up to and with the next that asks for more than a state; all that are left, behind a fault.
+    /// Takes bytes up to and with the next that asks for more than a state; all that are left, after a fault.
     #[inline(always)]
     fn part(&mut self, piece: &[u8], from: usize) -> usize
         requires room { taken self.old + length piece.now < 2 ^ 63 + from }
@@ -162,7 +163,8 @@ impl JsonCheck {
         ensures running { IsRunning self.new }
         ensures count { taken self.new + from ≡ taken self.old + result.at }
         ensures entry { result.entry < 64 }
-        ensures next { result.at < length piece.now → entered result.entry self.new ≡ advance self.new (get_or piece.now result.at 0) }
+        ensures next { result.at < length piece.now
+            → entered result.entry self.new ≡ advance self.new (get_or piece.now result.at 0) }
     {
         let after_comma = after_comma(&self.kinds, self.depth);
         let stop = travel(self.state, after_comma, piece, from);
@@ -282,7 +284,7 @@ impl JsonCheck {
     }
 }
 
-/// The state behind a comma in the innermost container, or 0 where none is open.
+/// The state after a comma in the innermost container, or 0 where none is open.
 #[tactic(auto, unfolding(crate::specs::States::is_state))]
 #[inline(always)]
 fn after_comma(kinds: &[u64], depth: usize) -> u8

@@ -1,3 +1,4 @@
+//! A JSON text as its bytes.
 ghost use Rattle.std.specs.Prelude.{◌≡◌, ◌↔◌, length, IsTrue, IsOk, IfOk, IfErr};
 ghost use Rattle.wx_json.specs.Test.{is_json_text};
 ghost use Rattle.wx_json.specs.Text.{IsJsonText, IsEndFault};
@@ -76,9 +77,7 @@ impl JsonText {
     pub fn try_clone(&self) -> Result<JsonText, NoMemory>
         ensures { IfOk result (λ text. text ≡ self.now) }
     {
-        match self.items.clone() {
-            Ok(items) => Ok(JsonText { items }),
-            Err(_) => Err(NoMemory),
-        }
+        let items = self.items.clone()?;
+        Ok(JsonText { items })
     }
 }

@@ -10,8 +10,6 @@ mod json_check;
 mod json_text;
 mod levels;
 mod runs;
-#[cfg(test)]
-mod tests;
 mod transitions;
 
 pub use json_check::JsonCheck;

@@ -7,17 +7,17 @@
 //! | State | Where the check stands |
 //! |---|---|
 //! | `W` | a value comes |
-//! | `o` | the same, behind a colon: the one space that mostly stands there begins no run |
-//! | `A` `O` | behind the bracket that opens an array, an object |
+//! | `o` | the same, after a colon: the one space that mostly stands there begins no run |
+//! | `A` `O` | after the bracket that opens an array, an object |
 //! | `N` `C` `Z` | a member's name comes; its colon comes; a value has ended |
 //! | `s` (`S`) | in a string |
-//! | `b` (`B`) | behind its reverse solidus |
+//! | `b` (`B`) | after its reverse solidus |
 //! | `h` `i` `j` `k` (`H` to `K`) | before the first to the fourth digit of `\u` |
 //! | `t` `u` `v` (`T` `U` `V`) | in a character of which one, two, three bytes are left |
-//! | `e` `d` `f` `g` (`E` `D` `F` `G`) | behind E0, ED, F0, F4, whose next byte has a narrower range |
-//! | `m` `z` `n` `p` `c` | behind a minus; a first zero; other digits; the point; the digits behind it |
-//! | `x` `y` `w` | behind an exponent's E; its sign; its digits |
-//! | `P` `Q` `R`, `L` `M` `X` `Y`, `l` `q` `r` | behind so many letters of `true`, `false`, `null` |
+//! | `e` `d` `f` `g` (`E` `D` `F` `G`) | after E0, ED, F0, F4, whose next byte has a narrower range |
+//! | `m` `z` `n` `p` `c` | after a minus; a first zero; other digits; the point; the digits after it |
+//! | `x` `y` `w` | after an exponent's E; its sign; its digits |
+//! | `P` `Q` `R`, `L` `M` `X` `Y`, `l` `q` `r` | after so many letters of `true`, `false`, `null` |
 ghost use Rattle.std.specs.Prelude.{◌≡◌, ◌≤◌, ◌-◌, ◌<◌, ℕ, List, Bool, true, length, take, drop, get_or};
 ghost use Rattle.wx_json.specs.States.{is_state, is_in_string, is_between_tokens, is_in_digits, mode_of, coding_of, entered, next_of, Leads, LeadsAt, Asks, CommaLeads};
 ghost use Rattle.wx_json.specs.Check.{running, advance};
@@ -32,7 +32,7 @@ pub(crate) const STRING: u8 = b'+';
 pub(crate) const NAME: u8 = b'*';
 /// a run of white space or digits, which leave the state as it is, goes on,
 pub(crate) const RUN: u8 = b'=';
-/// a comma behind a value,
+/// a comma after a value,
 pub(crate) const COMMA: u8 = b',';
 /// an array or an object opens,
 pub(crate) const OPEN_ARRAY: u8 = b'(';
@@ -118,7 +118,8 @@ fn transition(state: usize, c: u8) -> u8
     requires { is_state state ≡ true }
     ensures state { 64 ≤ result → is_state result ≡ true }
     ensures value { (k n : ℕ) (σ : List Bool) →
-        entered result (running k (coding_of state) (mode_of state) n σ) ≡ advance (running k (coding_of state) (mode_of state) n σ) c }
+        entered result (running k (coding_of state) (mode_of state) n σ)
+        ≡ advance (running k (coding_of state) (mode_of state) n σ) c }
 {
     TRANSITIONS[CLASSES[c as usize] as usize - b'0' as usize][state - 64]
 }
@@ -176,7 +177,7 @@ fn between_tokens(state: u8) -> bool
         || state == b'Z'
 }
 
-/// Whether the state is in a number, behind a digit that any other may follow.
+/// Whether the state is in a number, after a digit that any other may follow.
 #[inline(always)]
 fn in_digits(state: u8) -> bool
     ensures { result ≡ is_in_digits state }

@@ -14,7 +14,8 @@ use Rattle.wx_match_pattern.specs.Reading.{pattern_of}
 use Rattle.wx_manifest_tree.specs.Tree.{required}
 use Rattle.wx_manifest_tree.proofs.Places.{drop_at_get, position_here, position_later}
 use Rattle.wx_manifest_tree.specs.declared.KeyFault.{KeyFault}
-use Rattle.wx_manifest.specs.Keys.{◌>>=◌, under, key_name}
+use Rattle.wx_id.specs.Results.{◌>>=◌}
+use Rattle.wx_manifest.specs.Keys.{under, key_name}
 use Rattle.wx_manifest.specs.ExtensionManifests.{text_of, is_id_entry, judged, patterns_from, SomeMeets}
 use Rattle.wx_manifest.specs.IdEntries.{id_text}
 use Rattle.wx_manifest.specs.declared.ids.IdEntry.{IdEntry}

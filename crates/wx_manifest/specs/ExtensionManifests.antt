@@ -1,18 +1,19 @@
 -- What an extension's manifest holds (Chrome's "Manifest file format"; MDN's "externally_connectable").
 use Rattle.std.specs.Prelude.{ℕ, suc, Bool, true, false, not, ◌==◌, ◌&&◌, ◌||◌, nat_lt, List, [], ◌∷◌, length, Option, Some, None, option_and_then, unwrap_or, Result, Ok, Err, codes, if◌then◌else◌, ◌⊎◌}
 use Rattle.std.specs.List.{list_any, list_all, position_from}
-use Rattle.std.specs.Option.{option_map_or}
+use Rattle.std.specs.Option.{option_map_or, ok_or}
 use Rattle.std.specs.Str.{bytes_eq}
 use Rattle.url.specs.Parts as url
 use Rattle.serde_json.specs.Data.{Data, Items, no_items, item}
 use Rattle.serde_json.specs.Find.{get, as_str, as_array, as_number, as_u64}
 use Rattle.wx_id.specs.Ids.{is_extension_id}
+use Rattle.wx_id.specs.Results.{◌>>=◌}
 use Rattle.wx_match_pattern.specs.Pattern.{PatternParts, all_urls, parts, HostPart, no_host, any_host, below, named, is_label_byte}
 use Rattle.wx_match_pattern.specs.Meets.{Meets}
 use Rattle.wx_match_pattern.specs.Reading.{pattern_of}
 use Rattle.wx_match_pattern.specs.declared.fault.PatternFault.{PatternFault}
-use Rattle.wx_manifest_tree.specs.Tree.{object_of, only_object, required, optional, as_texts}
-use Rattle.wx_manifest.specs.Keys.{◌>>=◌, key_name, under, no_place}
+use Rattle.wx_manifest_tree.specs.Tree.{object_of, only_object, required, optional, as_texts, no_place}
+use Rattle.wx_manifest.specs.Keys.{key_name, under}
 use Rattle.wx_manifest.specs.declared.faults.Key.{Key}
 use Rattle.wx_manifest.specs.declared.faults.Key.TheVariants as key
 use Rattle.wx_manifest.specs.declared.faults.ManifestFault.{ManifestFault}
@@ -143,13 +144,11 @@ manifest_in d = do
   external ← external_of d
   Ok record { manifest_version = manifest_version; name = name; version = version; native = native; external = external }
 
-abbrev pub if_object : Option Data → (Data → Result Manifest ManifestFault) → Result Manifest ManifestFault
-if_object None holds = Err NotJson
-if_object (Some d) holds = holds d
-
 -- what the manifest holds, or the first test that fails
 unfoldable pub extension_of : List ℕ → Result Manifest ManifestFault
-extension_of bytes = if_object (object_of bytes) manifest_in
+extension_of bytes = do
+  d ← ok_or (object_of bytes) NotJson
+  manifest_in d
 
 -- the member of `ids` is `*` or the id
 abbrev pub admits_entry : List ℕ → List ℕ → Bool

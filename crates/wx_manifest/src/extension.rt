@@ -1,3 +1,4 @@
+//! The manifest of an extension.
 ghost use Rattle.std.specs.Prelude.{◌≡◌, ◌≢◌, ◌↔◌, Ok, Err, IfOk, IfErr, IsTrue, is_some};
 ghost use Rattle.serde_json.specs.View.{view};
 ghost use Rattle.wx_manifest.specs.ExtensionManifests as manifests;
@@ -9,7 +10,7 @@ use serde_json::Value;
 use std::alloc::Global;
 use std::marker::Model;
 use url::Url;
-use wx_id::{ExtensionId, NoMemory, Utf8Text};
+use wx_id::{ExtensionId, Utf8Text};
 use wx_manifest_tree::{ReadFault, read_object};
 
 /// The manifest of an extension. Contracts see what it holds.
@@ -57,16 +58,6 @@ fn external_of(alloc: Global, tree: &Value) -> Result<Option<Connectable>, Manif
     }
 }
 
-fn copy_of(alloc: Global, text: &str) -> Result<Utf8Text, ManifestFault>
-    ensures ok { IfOk result (λ copy. copy ≡ text.now) }
-    ensures err { IfErr result (λ fault. fault ≡ ManifestFault.NoMemory) }
-{
-    match Utf8Text::new(alloc, text) {
-        Ok(text) => Ok(text),
-        Err(NoMemory) => Err(ManifestFault::NoMemory),
-    }
-}
-
 /// What the object holds, by its keys in their order.
 #[tactic(auto, unfolding(crate::specs::ExtensionManifests::manifest_in))]
 fn extension_in(alloc: Global, tree: &Value) -> Result<Extension, ManifestFault>
@@ -79,8 +70,8 @@ fn extension_in(alloc: Global, tree: &Value) -> Result<Extension, ManifestFault>
     let version = text_of(tree, Key::Version)?;
     let native = native_of(tree)?;
     let external = external_of(alloc, tree)?;
-    let name = copy_of(alloc, name)?;
-    let version = copy_of(alloc, version)?;
+    let name = Utf8Text::new(alloc, name)?;
+    let version = Utf8Text::new(alloc, version)?;
     Ok(Extension {
         manifest_version,
         name,

@@ -1,5 +1,7 @@
+//! The keys of a manifest, and why it is refused.
 ghost use Rattle.std.specs.Prelude.{◌≡◌};
 
+use wx_id::NoMemory;
 use wx_match_pattern::PatternFault;
 
 /// A key of an extension's manifest.
@@ -38,6 +40,16 @@ pub enum ManifestFault {
     TooBroad(u64),
     /// Memory was refused.
     NoMemory,
+}
+
+impl From<NoMemory> for ManifestFault {
+    ghost use Rattle.wx_manifest.specs.declared.faults.ManifestFault.TheVariants.{NoMemory};
+
+    ghost from_gives = { λ _ fault. fault ≡ NoMemory };
+
+    fn from(_e: NoMemory) -> ManifestFault {
+        ManifestFault::NoMemory
+    }
 }
 
 impl Key {

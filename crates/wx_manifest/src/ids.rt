@@ -1,3 +1,4 @@
+//! The members of `ids` in `externally_connectable`.
 ghost use Rattle.std.specs.Prelude.{◌≡◌, ◌≢◌, true, false, map, Ok, Err, IfOk, IfErr, MatchOption};
 ghost use Rattle.serde_json.specs.View.{view};
 ghost use Rattle.wx_manifest.specs.ExtensionManifests as manifests;

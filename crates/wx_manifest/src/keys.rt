@@ -1,4 +1,4 @@
-// What stands under each key, and the test that it has to pass.
+//! What stands under each key, and the test that it has to pass.
 ghost use Rattle.std.specs.Prelude.{◌≡◌, Some, codes};
 ghost use Rattle.serde_json.specs.View.{view, items_view};
 ghost use Rattle.serde_json.specs.Find.{get};

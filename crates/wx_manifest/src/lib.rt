@@ -10,6 +10,3 @@ mod patterns;
 
 pub use extension::Extension;
 pub use faults::{Key, ManifestFault};
-
-#[cfg(test)]
-mod tests;

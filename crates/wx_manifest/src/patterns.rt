@@ -1,3 +1,4 @@
+//! The members of `matches` in `externally_connectable`.
 ghost use Rattle.std.specs.Prelude.{◌≡◌, ◌≢◌, Ok, Err, IfOk, IfErr, IsTrue, ◌↔◌};
 ghost use Rattle.wx_match_pattern.specs.Reading.{pattern_of};
 ghost use Rattle.serde_json.specs.View.{view};

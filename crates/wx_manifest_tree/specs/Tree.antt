@@ -1,5 +1,5 @@
 -- The tree of a manifest, and what stands under its keys (MDN's "manifest.json", "Native manifests").
-use Rattle.std.specs.Prelude.{ℕ, List, [], ◌∷◌, Option, Some, None, is_some, Result, Ok, Err, option_map, option_and_then, if◌then◌else◌}
+use Rattle.std.specs.Prelude.{ℕ, List, [], ◌∷◌, Option, Some, None, is_some, Result, Ok, Err, option_map, option_and_then, if◌then◌else◌, ⊤}
 use Rattle.std.specs.Str.{is_utf8}
 use Rattle.std.specs.Borrow.{Bor}
 use Rattle.std.specs.Option.{ok_or}
@@ -34,6 +34,11 @@ texts_of (item d ds) = option_and_then (λ text. option_map (λ texts. text ∷ 
 -- an array of strings, as its texts
 abbrev pub as_texts : Data → Option (List (List ℕ))
 as_texts d = option_and_then texts_of (as_array d)
+
+-- no place is a fault
+abbrev pub no_place : {F : Type 0} → Option ℕ → (ℕ → F) → Result ⊤ F
+no_place None fault = Ok tt
+no_place (Some place) fault = Err (fault place)
 
 -- an answer that lends a text, as that text
 abbrev pub lent : {E : Type 0} → Result (Bor (List ℕ)) E → Result (List ℕ) E

@@ -25,7 +25,7 @@ absorb : {p x : List ℕ} (front : List ℕ) → Globs (star ∷ p) x → Globs 
 absorb [] g = g
 absorb (d ∷ front) g = star_more d (absorb front g)
 
--- what is matched behind some bytes is matched from the front
+-- what is matched after some bytes is matched from the front
 shorter : {p : List ℕ} (m : ℕ) (x : List ℕ) → Globs (star ∷ p) (drop m x) → Globs (star ∷ p) x
 shorter {p} m x g = subst (λ (t : List ℕ). Globs (star ∷ p) t) (take-append-drop m x) (absorb (take m x) g)
 
@@ -53,7 +53,7 @@ star-at_end {p} never g = by (behind_star g)
 
 -- ---- a run of plain characters
 
--- the first characters agree and are plain, and `*` stands behind them
+-- the first characters agree and are plain, and `*` stands after them
 data StarAt : ℕ → List ℕ → List ℕ → Type 0 where
   here : {p x : List ℕ} → StarAt 0 (star ∷ p) x
   later : {k : ℕ} {p x : List ℕ} (c : ℕ) → c ≢ star → StarAt k p x → StarAt (suc k) (c ∷ p) (c ∷ x)
@@ -119,7 +119,7 @@ within_text : {k : ℕ} {p x : List ℕ} → StarAt k p x → k ≤ length x
 within_text here = omega arith
 within_text (later c n s) = let l = within_text s in omega arith
 
--- the first place of a run behind `*` may be kept
+-- the first place of a run after `*` may be kept
 keeps : {k : ℕ} {p x : List ℕ} → StarAt k p x → Globs (star ∷ p) x → Globs (star ∷ drop (suc k) p) (drop k x)
 keeps {k} {p} {x} s g =
     let b = behind_star g in
@@ -156,7 +156,7 @@ pub globs-differs : (p x : List ℕ) → run_of p x ≡ Differs → ¬ Globs p x
 unfolding Says
 globs-differs p x e = subst (λ (r : Run). Says r p x) e (run_says p x)
 
--- ---- the search behind `*`, where the whole is P
+-- ---- the search after `*`, where the whole is P
 
 pub behind-whole : {P : Type 0} (p x : List ℕ) → P ↔ Globs (star ∷ p) x → Whole ≡ run_of p x → P
 behind-whole p x same_as e = same_as.1 (star_none (globs-whole p x (sym e)))

@@ -42,7 +42,7 @@ cons_name : {b : ℕ} {n : List ℕ} → is_label_byte b ≡ true → IsName n �
 cons_name e (label l) = label (cons_label e l.each)
 cons_name e (dotted l n) = dotted (cons_label e l.each) n
 
--- what can stand behind a byte of a label, or where a label has to begin
+-- what can stand after a byte of a label, or where a label has to begin
 Rest : Bool → List ℕ → Type 0
 Rest true bytes = (b : ℕ) → is_label_byte b ≡ true → IsName (b ∷ bytes)
 Rest false bytes = IsName bytes
@@ -141,7 +141,7 @@ name-whole r (dotted {l = l} {n = n} is name) =
     ap (name_whole false) (append_assoc l (dot ∷ n) r) ∙ label-whole false l (dot ∷ n ++ r) is
     ∙ name_whole-dot (n ++ r) ∙ name-whole r name
 
--- the text ends behind a host, or a path follows
+-- the text ends after a host, or a path follows
 pub data Follows : List ℕ → Type 0 where
   nothing : Follows []
   path : {r : List ℕ} → Follows (slash ∷ r)
@@ -189,7 +189,7 @@ name_len-within inside (b ∷ bytes) =
     (λ n. n ≤ suc (length bytes)) (λ e. omega arith)
     (λ e. cond_both (inside && eqb b dot) (suc (name_len false bytes)) 0 (λ n. n ≤ suc (length bytes)) (λ d. omega arith) (λ d. omega arith))
 
--- what the two are, for bytes of this length and with more behind the place
+-- what the two are, for bytes of this length and with more after the place
 Settled : Bool → List ℕ → List ℕ → ℕ → Bool → Type 0
 Settled inside bytes more n w =
     n < length bytes → (name_len inside (take (suc n) bytes ++ more) ≡ n) × (name_whole inside (take (suc n) bytes ++ more) ≡ w)

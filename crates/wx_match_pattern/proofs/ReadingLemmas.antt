@@ -70,7 +70,7 @@ no_pattern text fault e p =
     let both : Ok p.0 ≡ Err fault = sym (pattern_of-text p.0 text p.1) ∙ e in
     cc both
 
--- ---- behind `scheme://`
+-- ---- after `scheme://`
 
 unfoldable pub Describes : List ℕ → Parsed → Type 0
 Describes text parsed = MatchResult parsed (λ pattern. IsTextOf pattern text) (IsFault text)
@@ -117,7 +117,7 @@ behind-read scheme bytes e =
     first_behind (x ∷ xs) zero = refl
     first_behind (x ∷ xs) (suc n) = first_behind xs n
 
--- the fault's kind behind `scheme://`
+-- the fault's kind after `scheme://`
 kind_behind : List ℕ → HostFront → PatternKind
 kind_behind bytes front = cond (front.whole && eqb front.len (length bytes)) Path Host
 

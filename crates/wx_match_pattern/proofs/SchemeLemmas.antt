@@ -113,7 +113,7 @@ whole-agreement (b ∷ text) (h ∷ head) e =
     ap₂ (λ (x : ℕ) (t : List ℕ). x ∷ t) same_byte (whole-agreement text head (omega arith)))
     (λ n. let z = agreement-other b h text head n in absurd (omega arith)) (cases_eq b h)
 
--- with more behind the first place that does not agree, the agreement stays
+-- with more after the first place that does not agree, the agreement stays
 pub agreement-settled : (text head more : List ℕ) (k : ℕ) → agreement text head ≤ k → k < length text → agreement (take (suc k) text ++ more) head ≡ agreement text head
 agreement-settled [] head more k l m = absurd (omega arith)
 agreement-settled (b ∷ text) [] more k l m = agreement-end (b ∷ (take k text ++ more)) ∙ sym (agreement-end (b ∷ text))

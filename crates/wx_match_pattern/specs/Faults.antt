@@ -6,7 +6,7 @@ use Rattle.wx_match_pattern.specs.declared.fault.PatternKind.{PatternKind}
 use Rattle.wx_match_pattern.specs.declared.fault.PatternKind.TheVariants.{Scheme, Host, Path}
 use Rattle.wx_match_pattern.specs.Pattern.{HostPart, IsHostOf, IsPattern, scheme_head, host_text}
 
--- some bytes behind these make a pattern
+-- some bytes after these make a pattern
 abbrev pub IsPrefixOfPattern : List ℕ → Type 0
 IsPrefixOfPattern bytes = (rest : List ℕ) × IsPattern (bytes ++ rest)
 

@@ -69,7 +69,7 @@ host_part text =
     else (if starts_with nat_eq text (codes "*.") then below (drop 2 text)
     else named text))
 
--- the pattern, where a whole host and then `/` stand behind `scheme://`
+-- the pattern, where a whole host and then `/` stand after `scheme://`
 abbrev pub pattern_behind : SchemePart → List ℕ → HostFront → Result PatternParts PatternFault
 pattern_behind scheme bytes front =
     if front.whole && slice_index bytes front.len == slash

@@ -1,3 +1,4 @@
+//! Where and why a text is no pattern.
 /// The part of a pattern in which a fault lies.
 #[derive(Clone, Copy, Debug, PartialEq, Eq)]
 pub enum PatternKind {
@@ -5,7 +6,7 @@ pub enum PatternKind {
     Scheme,
     /// Behind `://`, where neither of the others applies.
     Host,
-    /// The text ends behind a whole host, and the path is missing.
+    /// The text ends after a whole host, and the path is missing.
     Path,
 }
 

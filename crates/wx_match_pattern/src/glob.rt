@@ -1,3 +1,4 @@
+//! Paths with `*` for any run of characters.
 ghost use Rattle.std.specs.Prelude.{◌≡◌, ◌↔◌, ◌∷◌, ◌<◌, ◌≤◌, ◌^◌, IsTrue, length};
 ghost use Rattle.wx_match_pattern.specs.Globs.{Globs, star};
 ghost use Rattle.wx_match_pattern.specs.Run.{run_of, IsWithin};
@@ -9,7 +10,7 @@ use crate::slices::behind;
 pub(crate) enum Run {
     /// They are the whole pattern and the whole text.
     Whole,
-    /// This many agree, and `*` stands behind them.
+    /// This many agree, and `*` stands after them.
     Star(usize),
     /// They differ from the text, or one of the two ends.
     Differs,
@@ -54,7 +55,7 @@ fn matches_behind_star(mut pattern: &[u8], mut text: &[u8]) -> bool
 
 /// Whether the pattern, each `*` of which stands for any run of characters, matches the text.
 ///
-/// Once a run of plain characters is found behind a `*`, its first place is kept, so no choice is ever taken back: the
+/// Once a run of plain characters is found after a `*`, its first place is kept, so no choice is ever taken back: the
 /// work is at most the pattern's length, and the text's length times that of the longest run between two `*`.
 pub(crate) fn matches(pattern: &[u8], text: &[u8]) -> bool
     ensures { IsTrue result ↔ Globs pattern.now text.now }

@@ -1,3 +1,4 @@
+//! The law of reading.
 ghost use Rattle.std.specs.Prelude.{◌≡◌, List, ℕ, Ok, Err, MatchResult};
 ghost use Rattle.wx_match_pattern.specs.declared.fault.PatternFault.{PatternFault};
 ghost use Rattle.wx_match_pattern.specs.Faults.{IsFault};

@@ -15,6 +15,3 @@ mod slices;
 pub use fault::{PatternFault, PatternKind, PatternReadFault};
 pub use law::one_pattern_or_fault;
 pub use pattern::Pattern;
-
-#[cfg(test)]
-mod tests;

@@ -1,3 +1,4 @@
+//! The parts of a pattern, and what each meets.
 ghost use Rattle.std.specs.Prelude.{◌≡◌, ◌↔◌, IsTrue, option_copied};
 ghost use Rattle.wx_match_pattern.specs.Meets.{SchemeAgrees, HostAgrees, IsBelow, IsWebScheme};
 ghost use Rattle.wx_match_pattern.specs.Pattern.{scheme_head, IsBroadHost};

@@ -1,3 +1,4 @@
+//! Patterns, and the URLs that they match.
 ghost use Rattle.std.specs.Prelude.{◌≡◌, ◌↔◌, IsTrue, Ok, Err, IfOk, IfErr, List, ℕ};
 ghost use Rattle.wx_match_pattern.specs.Answers.{BadIs, Gives};
 ghost use Rattle.wx_match_pattern.specs.Faults.{IsFault};

@@ -1,3 +1,4 @@
+//! Reading a pattern: its parts, or its first fault.
 ghost use Rattle.std.specs.Prelude.{◌≡◌, ◌≤◌, ◌+◌, false, IfOk, IfSome, length, drop};
 ghost use Rattle.wx_match_pattern.specs.Answers.{Gives};
 ghost use Rattle.wx_match_pattern.specs.Pattern.{is_label_byte, scheme_head};
@@ -8,7 +9,7 @@ use crate::fault::{PatternFault, PatternKind, PatternReadFault};
 use crate::parts::{Form, HostForm, SchemePart};
 use std::alloc::{AllocError, Global};
 
-/// What stands at the front of the bytes behind `scheme://`.
+/// What stands at the front of the bytes after `scheme://`.
 #[derive(Clone, Copy, Debug, PartialEq, Eq)]
 struct HostFront {
     /// How many bytes begin a host.
@@ -132,7 +133,7 @@ fn host_part(alloc: Global, text: &[u8]) -> Result<HostForm, AllocError>
     Ok(HostForm::Named(text.to_vec(alloc)?))
 }
 
-/// The pattern of this scheme, of which the bytes behind `scheme://` are given.
+/// The pattern of this scheme, of which the bytes after `scheme://` are given.
 fn read_behind(alloc: Global, scheme: SchemePart, bytes: &[u8]) -> Result<Form, PatternReadFault>
     ensures { Gives (answer_view result)
         (reading.pattern_behind scheme bytes.now (reading.host_front scheme bytes.now)) }

@@ -93,7 +93,7 @@ text_in-more r s le =
     let front : told_length r ≡ told_length (take 4 r) = ap told_length (sym (take-append-drop 4 r)) ∙ told-append (take 4 r) (drop 4 r) (omega arith) in
     ap text_in parts ∙ text_in-append (take 4 r) (drop 4 r ++ s) (omega arith) ∙ ap (λ n. take n (drop 4 r ++ s)) (sym front)
 
--- the text so far, and what comes behind it
+-- the text so far, and what comes after it
 text_in-longer : (r s : List ℕ) → 4 ≤ length r → (x : List ℕ) × (text_in (r ++ s) ≡ text_in r ++ x)
 text_in-longer r s le = (drop (length (take (told_length r) (drop 4 r))) (take (told_length r) (drop 4 r ++ s)), text_in-more r s le ∙ sym (take-append-drop (length (take (told_length r) (drop 4 r))) (take (told_length r) (drop 4 r ++ s))) ∙ ap (λ y. y ++ drop (length (take (told_length r) (drop 4 r))) (take (told_length r) (drop 4 r ++ s))) front)
   where

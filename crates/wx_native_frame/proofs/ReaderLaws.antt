@@ -152,7 +152,7 @@ fresh b small four none within some empty room stands count = record {
   first = λ f e. cc;
 }
 
--- what a step did behind the length is what it did in all
+-- what a step did after the length is what it did in all
 behind : (a : Inside) (piece head text : List ℕ) (used : ℕ) → head ≡ a.head ++ take used piece → text ≡ [] → head ++ text ≡ a.head ++ take used piece
 behind a piece head text used e empty = ap (λ x. head ++ x) empty ∙ append-nil head ∙ e
 

@@ -24,7 +24,7 @@ pub record IsFrame (limit : ℕ) (bytes t : List ℕ) : Type 0 where
   pub fits : length t ≤ limit
   pub bytes_are : bytes ≡ frame t
 
--- the bytes behind the length, at most as many as it tells
+-- the bytes after the length, at most as many as it tells
 abbrev pub text_in : List ℕ → List ℕ
 text_in r = take (told_length r) (drop 4 r)
 

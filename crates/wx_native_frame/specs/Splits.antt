@@ -3,7 +3,7 @@ use Rattle.std.specs.Prelude.{◌≡◌, ℕ, ◌≤◌, List, [], ◌∷◌, �
 use Rattle.wx_json.specs.Text.{IsJsonText}
 use Rattle.wx_native_frame.specs.Frames.{frame, IsFrame}
 
--- the frames of the texts, one behind the other
+-- the frames of the texts, one after the other
 abbrev pub frames : List (List ℕ) → List ℕ
 frames [] = []
 frames (t ∷ ts) = frame t ++ frames ts

@@ -1,3 +1,4 @@
+//! The reader of frames that come in pieces.
 ghost use Rattle.std.specs.Prelude.{◌≡◌, ℕ, ◌+◌, ◌<◌, ◌≤◌, ◌^◌, List, [], ◌++◌, length, take, OnOk, IfErr, IfOk, IfSome, IfNone, MatchOption, MatchResult};
 ghost use Rattle.wx_native_frame.specs.Frames.{told_length, frame, IsTrouble, IsTroubleFirst, IsUnderWay, EndsFrame, StopsAt};
 ghost use Rattle.wx_native_frame.specs.declared.FrameFault.{FrameFault};
@@ -60,13 +61,14 @@ impl FrameReader {
 
     /// Whether the bytes used end where a frame does. After a fault they don't.
     pub fn finish(&self) -> Result<(), Cut>
-        ensures { MatchResult result (λ _. self.now.bytes ≡ []) (λ cut. (0 < cut.have) × (cut.have ≡ length self.now.bytes)) }
+        ensures { MatchResult result (λ _. self.now.bytes ≡ [])
+            (λ cut. (0 < cut.have) × (cut.have ≡ length self.now.bytes)) }
     {
         let have = self.head.len() as u64 + self.text.len() as u64;
         if have == 0 { Ok(()) } else { Err(Cut { have }) }
     }
 
-    /// How many bytes are missing of the four of the length or, behind these, of the text; 0 after a fault.
+    /// How many bytes are missing of the four of the length or, after these, of the text; 0 after a fault.
     pub fn wanted(&self) -> u32
         ensures head { length self.now.bytes < 4 → result + length self.now.bytes ≡ 4 }
         ensures text { 4 ≤ length self.now.bytes → IsUnderWay self.now.bytes self.now.limit →
@@ -117,7 +119,8 @@ impl FrameReader {
     /// there is no memory for it, nothing is answered here.
     fn whole_frame(&mut self, piece: &[u8]) -> Option<JsonText>
         ensures kept { self.new ≡ self.old }
-        ensures frame { IfSome result (λ t. (self.old.bytes ≡ []) × EndsFrame self.old.limit [] piece.now (4 + length t) t) }
+        ensures frame { IfSome result (λ t. (self.old.bytes ≡ [])
+            × EndsFrame self.old.limit [] piece.now (4 + length t) t) }
     {
         if self.head.len() > 0 {
             return None;

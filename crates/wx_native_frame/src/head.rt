@@ -1,3 +1,4 @@
+//! The four bytes of a frame's length, as they come.
 ghost use Rattle.std.specs.Prelude.{◌≡◌, ℕ, ◌+◌, ◌<◌, ◌≤◌, ◌++◌, [], length, take, slice_index};
 ghost use Rattle.wx_native_frame.specs.Frames.{told_length, length_bytes};
 
@@ -40,7 +41,7 @@ impl Head {
         self.len
     }
 
-    /// The same bytes with more behind them.
+    /// The same bytes with more after them.
     pub(crate) fn with(&self, more: &[u8]) -> Head
         requires { length self.now + length more.now ≤ 4 }
         ensures { result ≡ self.now ++ more.now }

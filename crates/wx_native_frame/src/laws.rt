@@ -1,3 +1,4 @@
+//! The laws of the reader: one split, and one answer.
 ghost use Rattle.std.specs.Prelude.{◌≡◌, ℕ, ◌<◌, ◌^◌, List, [], ◌∷◌, ◌++◌};
 ghost use Rattle.wx_native_frame.specs.Frames.{IsFrame, IsTrouble, IsUnderWay, EndsFrame};
 ghost use Rattle.wx_native_frame.specs.Splits.{IsSplit};
@@ -12,14 +13,17 @@ pub fn one_split()
         IsSplit limit stream texts rest → IsSplit limit stream others other → (texts ≡ others) × (rest ≡ other) }
     ensures start { (limit : ℕ) → IsSplit limit [] [] [] }
     ensures frame { (limit : ℕ) (stream : List ℕ) (texts : List (List ℕ)) (rest more t : List ℕ) →
-        IsSplit limit stream texts rest → IsFrame limit (rest ++ more) t → IsSplit limit (stream ++ more) (texts ++ t ∷ []) [] }
+        IsSplit limit stream texts rest → IsFrame limit (rest ++ more) t
+        → IsSplit limit (stream ++ more) (texts ++ t ∷ []) [] }
     ensures whole { (limit : ℕ) (stream : List ℕ) (texts : List (List ℕ)) (rest more : List ℕ) →
-        IsSplit limit stream texts rest → IsUnderWay (rest ++ more) limit → IsSplit limit (stream ++ more) texts (rest ++ more) }
-    ensures fault { (limit : ℕ) (stream : List ℕ) (texts : List (List ℕ)) (rest more : List ℕ) (f : FrameFault) → limit < 2 ^ 32 →
-        IsSplit limit stream texts rest → IsTrouble (rest ++ more) limit f → IsSplit limit (stream ++ more) texts (rest ++ more) }
+        IsSplit limit stream texts rest → IsUnderWay (rest ++ more) limit
+        → IsSplit limit (stream ++ more) texts (rest ++ more) }
+    ensures fault { (limit : ℕ) (stream : List ℕ) (texts : List (List ℕ)) (rest more : List ℕ) (f : FrameFault) →
+        limit < 2 ^ 32 → IsSplit limit stream texts rest → IsTrouble (rest ++ more) limit f
+        → IsSplit limit (stream ++ more) texts (rest ++ more) }
 {}
 
-/// Bytes and a piece behind them have at most one of the answers of `FrameReader::step`, want of memory left aside: a
+/// Bytes and a piece after them have at most one of the answers of `FrameReader::step`, want of memory left aside: a
 /// frame ends in one place with one text, and then there is no trouble; and all trouble is one.
 pub fn one_answer()
     ensures frame { (limit : ℕ) (bytes piece : List ℕ) (used other : ℕ) (t u : List ℕ) →

@@ -7,8 +7,6 @@ ghost use Rattle.wx_native_frame.specs.Frames.{length_bytes, frame};
 mod frame_reader;
 mod head;
 mod laws;
-#[cfg(test)]
-mod tests;
 mod text;
 
 use byteorder::{ByteOrder, LittleEndian};
@@ -58,9 +56,7 @@ pub fn frame_into(text: &JsonText, out: &mut Vec<u8>) -> Result<(), NoMemory>
     ensures err { OnErr result (out.new.items ≡ out.old.items) }
 {
     let head = frame_head(text.len() as u32);
-    if out.reserve(4 + text.bytes().len()).is_err() {
-        return Err(NoMemory);
-    }
+    out.reserve(4 + text.bytes().len())?;
     let _ = out.extend_from_slice(&head);
     let _ = out.extend_from_slice(text.bytes());
     Ok(())

@@ -112,7 +112,8 @@ impl Requests {
     // Receiver c, which is open, will not reply to request r. Answers whether that settled it.
     fn close_at(&mut self, r: RequestNo, c: ContextNo) -> bool
         requires { standing_at (slice_get self.old r.0) c ≡ Open }
-        ensures requests { IfSome (slice_get self.old r.0) (λ request. self.new ≡ slice_set self.old r.0 (without c request)) }
+        ensures requests { IfSome (slice_get self.old r.0)
+            (λ request. self.new ≡ slice_set self.old r.0 (without c request)) }
         ensures settled { result ≡ is_settled_at (slice_get self.new r.0) }
     {
         // The asker is none of the receivers, so c drops a receiver's end.
@@ -124,7 +125,8 @@ impl Requests {
     /// Takes no memory.
     pub fn decline(&mut self, r: RequestNo, c: ContextNo) -> bool
         requires { standing_at (slice_get self.old r.0) c ≡ Open }
-        ensures requests { IfSome (slice_get self.old r.0) (λ request. self.new ≡ slice_set self.old r.0 (without c request)) }
+        ensures requests { IfSome (slice_get self.old r.0)
+            (λ request. self.new ≡ slice_set self.old r.0 (without c request)) }
         ensures settled { result ≡ is_settled_at (slice_get self.new r.0) }
     {
         self.close_at(r, c)
@@ -134,7 +136,8 @@ impl Requests {
     /// receiver is open. Takes no memory.
     pub fn drop_receiver(&mut self, r: RequestNo, c: ContextNo) -> bool
         requires { standing_at (slice_get self.old r.0) c ≡ Open }
-        ensures requests { IfSome (slice_get self.old r.0) (λ request. self.new ≡ slice_set self.old r.0 (without c request)) }
+        ensures requests { IfSome (slice_get self.old r.0)
+            (λ request. self.new ≡ slice_set self.old r.0 (without c request)) }
         ensures settled { result ≡ is_settled_at (slice_get self.new r.0) }
     {
         self.close_at(r, c)
@@ -160,7 +163,8 @@ impl Requests {
     /// requests of c, and then as many steps as it finds settled.
     pub fn next_of(&self, c: ContextNo, from: RequestNo) -> Option<RequestNo>
         ensures found { IfSome result (λ r. (from.0 ≤ r.0) × IsTrue (concerns_at (slice_get self.now r.0) c)) }
-        ensures least { IfSome result (λ r. (k : ℕ) → k < r.0 → from.0 ≤ k → concerns_at (slice_get self.now k) c ≡ false) }
+        ensures least { IfSome result (λ r. (k : ℕ) → k < r.0 → from.0 ≤ k
+            → concerns_at (slice_get self.now k) c ≡ false) }
         ensures none { IfNone result ((k : ℕ) → from.0 ≤ k → concerns_at (slice_get self.now k) c ≡ false) }
     {
         match self.ports.next_of(c, ChannelNo(from.0)) {

@@ -3,7 +3,7 @@ use Rattle.std.specs.Prelude.{◌≡◌, ℕ, ◌≤◌, List, ◌++◌, length,
 use Rattle.std.specs.Option.{option_map}
 use Rattle.wx_outside.specs.Causes.{Rose}
 
--- what was written, and these bytes behind it
+-- what was written, and these bytes after it
 abbrev pub added : Option (List ℕ) → List ℕ → Option (List ℕ)
 added written bytes = option_map (λ before. before ++ bytes) written
 

@@ -1,3 +1,4 @@
+//! The files of the system, and standard input.
 ghost use Rattle.std.specs.Prelude.{◌≡◌, None, IfOk};
 ghost use Rattle.wx_outside.specs.Shelf.{content, IsWithinLimit};
 
@@ -26,8 +27,8 @@ impl<'a, R: Files + Input> FileShelf<'a, R> {
 /// How many bytes are read at once.
 const PIECE: usize = 65_536;
 
-/// All that the source gives, unless it gives more than the limit. A read that a signal interrupted is tried again. Room
-/// for the bytes that are expected is taken at once; where it is refused, it is taken as they come.
+/// All that the source gives, unless it gives more than the limit. A read that a signal interrupted is tried again.
+/// Room for the bytes that are expected is taken at once; where it is refused, it is taken as they come.
 fn read_whole<S: Read>(alloc: Global, source: &mut S, expected: usize) -> Result<Found, ShelfFault>
     ensures { IfOk result (λ found. IsWithinLimit (content found)) }
 {

@@ -6,8 +6,6 @@ mod memory;
 mod shelf;
 mod sink;
 mod streams;
-#[cfg(test)]
-mod tests;
 
 pub use files::FileShelf;
 pub use memory::{MemoryFile, MemoryShelf, MemorySink};

@@ -1,3 +1,4 @@
+//! A shelf and a sink in memory.
 ghost use Rattle.std.specs.Prelude.{◌≡◌, Some};
 ghost use Rattle.std.specs.Option.{option_map};
 ghost use Rattle.wx_outside.specs.Memory.{bytes_at, files_of};

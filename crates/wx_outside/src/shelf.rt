@@ -1,3 +1,4 @@
+//! What files are read from.
 use std::alloc::Global;
 
 /// The most bytes that a shelf hands out of one file.

@@ -1,3 +1,4 @@
+//! What texts are written to.
 /// A piece was not written whole.
 #[derive(Clone, Copy, Debug, PartialEq, Eq)]
 pub struct Failed;
@@ -17,7 +18,7 @@ pub trait Sink {
     fn faults(&self) -> u64
         ensures { result ≡ faults self.now };
 
-    /// Writes these bytes behind the others; where that fails, a front of them may have been written.
+    /// Writes these bytes after the others; where that fails, a front of them may have been written.
     fn write(&mut self, bytes: &[u8]) -> Result<(), Failed>
         ensures ok { OnOk result (written self.new ≡ added (written self.old) bytes.now) }
         ensures err { OnErr result (AddsFront (written self.old) (written self.new) bytes.now) }

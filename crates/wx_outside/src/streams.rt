@@ -1,3 +1,4 @@
+//! A sink over a stream.
 ghost use Rattle.std.specs.Prelude.{◌≡◌, None};
 
 use crate::sink::{Failed, Sink};

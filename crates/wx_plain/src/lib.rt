@@ -7,8 +7,6 @@ mod matching;
 mod put;
 mod report;
 mod tell;
-#[cfg(test)]
-mod tests;
 mod top;
 mod verdict;
 

@@ -191,7 +191,8 @@ impl Ports {
     /// where no other is live. Takes no memory.
     pub fn drop_end(&mut self, k: ChannelNo, c: ContextNo) -> bool
         requires { IsTrue (spec.is_live_end (slice_get self.old k.0) c) }
-        ensures ports { IfSome (slice_get self.old k.0) (λ port. self.new ≡ slice_set self.old k.0 (spec.without c port)) }
+        ensures ports { IfSome (slice_get self.old k.0)
+            (λ port. self.new ≡ slice_set self.old k.0 (spec.without c port)) }
         ensures closed { result ≡ not (spec.is_open_port (slice_get self.new k.0)) }
     {
         self.table.drop_end(k, c)

@@ -134,9 +134,12 @@ pub fn port_report(entries: &[Entry], k: ChannelNo) -> Option<PortReport>
     ensures there { is_some result ≡ is_some (channel (reverse entries.now) k.0) }
     ensures opened { IfSome result (λ report. IsOpening (reverse entries.now) k.0 report.opened) }
     ensures closed { IfSome result (λ report. IfSome report.closed (IsClosing (reverse entries.now) k.0)) }
-    ensures laws { (world : WorldLists) → IsLegal world entries.now → IfSome result (λ report. KeepsChannel entries.now k.0 (option_map (λ n. n.0) report.closed)) }
-    ensures given { (world : WorldLists) → IsLegal world entries.now → IfSome result (λ report. report.posted ≡ given_on (reverse entries.now) k.0) }
-    ensures taken { (world : WorldLists) → IsLegal world entries.now → IfSome result (λ report. report.taken ≡ taken_on (reverse entries.now) k.0) }
+    ensures laws { (world : WorldLists) → IsLegal world entries.now
+        → IfSome result (λ report. KeepsChannel entries.now k.0 (option_map (λ n. n.0) report.closed)) }
+    ensures given { (world : WorldLists) → IsLegal world entries.now
+        → IfSome result (λ report. report.posted ≡ given_on (reverse entries.now) k.0) }
+    ensures taken { (world : WorldLists) → IsLegal world entries.now
+        → IfSome result (λ report. report.taken ≡ taken_on (reverse entries.now) k.0) }
 {
     match opened_at(entries, k) {
         None => None,

@@ -110,7 +110,8 @@ pub fn request_report(entries: &[Entry], r: RequestNo) -> Option<RequestReport>
     ensures tells { result ≡ request_report (reverse entries.now) r.0 }
     ensures there { is_some result ≡ is_some (request (reverse entries.now) r.0) }
     ensures opened { IfSome result (λ report. IsAsking (reverse entries.now) r.0 report.opened) }
-    ensures settled { IfSome result (λ report. option_map (λ s. s.0.0) report.settled ≡ settled_at (reverse entries.now) r.0) }
+    ensures settled { IfSome result
+        (λ report. option_map (λ s. s.0.0) report.settled ≡ settled_at (reverse entries.now) r.0) }
     ensures way { IfSome result (λ report. IfSome report.settled (IsSettlement (reverse entries.now) r.0)) }
     ensures laws { (world : WorldLists) → IsLegal world entries.now → KeepsRequest entries.now r.0 }
 {

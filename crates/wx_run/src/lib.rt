@@ -7,8 +7,6 @@ mod outcome;
 mod rounds;
 mod run;
 mod step;
-#[cfg(test)]
-mod tests;
 
 pub use outcome::{Outcome, RunEnd};
 pub use run::run_scene;

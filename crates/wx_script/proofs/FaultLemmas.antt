@@ -3,6 +3,7 @@ use Rattle.std.proofs.Common.{ℕ, ◌+◌, ◌≤◌, cond, arith, Bool, true, 
 use Rattle.std.specs.Prelude.{IfErr, IsTrue, Result, nat_le, length, not, codes, ok_or, ◌==◌}
 use Rattle.std.specs.Str.{bytes_eq}
 use Rattle.std.specs.declared.option.Option.{Option}
+use Rattle.wx_id.specs.Results.{◌>>=◌}
 use Rattle.wx_id.specs.Ids.{is_extension_id}
 use Rattle.wx_script.specs.declared.scene.Scene.{Scene}
 use Rattle.wx_script.specs.declared.scene.SceneKind.{SceneKind}
@@ -18,7 +19,7 @@ use Rattle.wx_context.specs.WebUrls.{web_url_of}
 use Rattle.wx_json.specs.Test.{is_json_text}
 use Rattle.wx_script.specs.Line.{NamedTarget, own, extension_named, tab, NamedAct, NamedCommand, NamedContext, Line, listen, connect, post, disconnect, send, reply, reply_same, decline, connect_native, send_native, take_one, await_event, echo, page, content, web, comment, extension, host, endpoint, script, line_at}
 use Rattle.wx_script.specs.Names.{has_extension, has_host, has_endpoint, id_under, place_in}
-use Rattle.wx_script.specs.Draft.{Draft, fresh, ◌>>=◌, declared, web_url, context_of, endpoint_added, used, json_of, target_of, await_of, act_of, named_act, command_added, line_added}
+use Rattle.wx_script.specs.Draft.{Draft, fresh, declared, web_url, context_of, endpoint_added, used, json_of, target_of, await_of, act_of, named_act, command_added, line_added}
 use Rattle.wx_script.specs.Scene.{lines_of, line_or_form, text_added, unless_faulty, lines_added, scene_from, headed, scene_of}
 use Rattle.wx_script.specs.Reading.{ReadsResult, is_of_a_line, IsOfALine, NamesALine}
 

@@ -2,7 +2,7 @@
 use Rattle.std.proofs.Common.{◌≡◌, ℕ, zero, suc, cond, true, false, Bool, List, [], ◌∷◌, Option, Some, None, refl, sym, ap, ◌∙◌, subst, eqb}
 use Rattle.std.specs.Prelude.{slice_get, IsTrue, ◌&&◌, ◌||◌, not, is_none}
 use native.Mathlib.Omega.{arith}
-use Rattle.std.proofs.lemmas.Bool.{eqb-true}
+use Rattle.std.proofs.lemmas.Bool.{eqb-true, or_left, or_right}
 use Rattle.wx_id.specs.declared.numbers.ContextNo.{ContextNo}
 use Rattle.wx_id.specs.declared.events.Event.{Event}
 use Rattle.wx_external.specs.World.{WorldLists}
@@ -46,7 +46,7 @@ unended_first past variables (a ∷ acts) =
       | Some b ↦ λ is. ap (λ b. is_end (next_or_end past b)) is ∙ unended_next past b
     ] refl
 
--- nothing comes next only behind the `leave`
+-- nothing comes next only after the `leave`
 pub end_is_left : (past : List Entry) (p : Place) → is_end (next_at past p) ≡ is_left p
 end_is_left past outside = refl
 end_is_left past (within unbegun acts variables) = unended_first past variables acts
@@ -54,7 +54,7 @@ end_is_left past (within (echoing n) acts variables) = refl
 end_is_left past (within (answering n came e) acts variables) = unended_answer came (text_of past e)
 end_is_left past left = refl
 
--- an act that begins with something is not left behind by one entry
+-- an act that begins with something is not left after by one entry
 await_stays : (variables : Variables) (a : Act) (acts : List Act) (event : Option Event) → is_left (behind_await variables a acts event) ≡ false
 await_stays variables a acts None = refl
 await_stays variables a acts (Some event) =
@@ -131,7 +131,7 @@ steps script past c (within (answering n came m) acts variables) e may =
     no_leave script (within (answering n came m) acts variables) e (answer_no_leave past c e came (text_of past m) may) (stays_in_echo n acts variables) refl
 steps script past c left e may = absurd may
 
--- ---- behind all entries
+-- ---- after all entries
 
 -- a script has ended where its context has left, and one that was begun came in
 pub record Agrees (script : List Command) (c : ContextNo) (past : List Entry) : Type 0 where
@@ -146,12 +146,6 @@ came_in : (world : WorldLists) (past : List Entry) (c : ContextNo) (x : Call) (a
     → answer ≡ answer_after world past (ByContext c) x → is_there (if_numbered c (brought (ByContext c) x answer)) ≡ true
 came_in world past c x answer is may answered = grind arith
 
-or_true : (a b : Bool) → b ≡ true → (a || b) ≡ true
-or_true a b is = grind arith
-
-true_or : (a b : Bool) → a ≡ true → (a || b) ≡ true
-true_or a b is = grind arith
-
 left_now : (l t v b : Bool) → l ≡ false → b ≡ true → (v ≡ true → t ≡ true) → v ≡ (l || (t && v && b))
 left_now l t v b none own there = grind arith
 
@@ -159,7 +153,7 @@ left_before : (l t v b : Bool) → b ≡ false → l ≡ (l || (t && v && b))
 left_before l t v b other = grind arith
 
 still_there : (past : List Entry) (e : Entry) (c : ContextNo) → is_there (context_of past c) ≡ true → is_there (context_of (e ∷ past) c) ≡ true
-still_there past e c is = either_there (context_of past c) _ ∙ true_or (is_there (context_of past c)) _ is
+still_there past e c is = either_there (context_of past c) _ ∙ or_left (is_there (context_of past c)) _ is
 
 agrees_other : (script : List Command) (c : ContextNo) (past : List Entry) (e : Entry) → Agrees script c past → is_by e.who c ≡ false → Agrees script c (e ∷ past)
 unfolding place_of
@@ -178,7 +172,7 @@ came_first world script c past e outside own may follows there =
     let says : e.answer ≡ answer_after world past (ByContext c) e.call = subst (λ w. e.answer ≡ answer_after world past w e.call) own follows.answered in
     let here : is_there (if_numbered c (brought (ByContext c) e.call e.answer)) ≡ true = came_in world past c e.call e.answer may makes says in
     let now : is_there (if_numbered c (enters e)) ≡ true = subst (λ w. is_there (if_numbered c (brought w e.call e.answer)) ≡ true) (sym own) here in
-    either_there (context_of past c) _ ∙ or_true (is_there (context_of past c)) _ now
+    either_there (context_of past c) _ ∙ or_right (is_there (context_of past c)) _ now
 came_first world script c past e (within progress acts variables) own may follows there = still_there past e c (there refl)
 came_first world script c past e left own may follows there = still_there past e c (there refl)
 

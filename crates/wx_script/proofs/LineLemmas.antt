@@ -15,7 +15,8 @@ use Rattle.wx_script.specs.declared.line.Awaited.TheVariants as event
 use Rattle.wx_script.specs.Words.{word, rest, behind, is_name, is_word, is_given, is_small, is_comment}
 use Rattle.wx_script.specs.Line.{NamedTarget, own, tab, NamedAct, NamedCommand, Document, NamedContext, Line, listen, connect, take_one, echo, plain, repeat, content, web, comment, endpoint, script, listens_to_nothing, name_at, count_at, tab_id_at, frame_id_at, file_at, extension_at, host_at, page_at, document_at, content_at, web_at, context_with, endpoint_with, flag_at, flags_at, listen_at, extension_target_at, frame_at, tab_with, tab_at, target_at, port_name_at, connect_at, post_at, disconnect_at, channel_act_with, native_at, ask_at, native_act_with, send_at, reply_with, reply_at, decline_at, request_act_with, awaited_at, await_at, echo_at, act_with, act_at, repeat_at, command_at, declaration_with, declaration_at, line_at}
 use Rattle.wx_script.specs.Spelling.{◌␣◌, flag_ahead, flag_words, target_spelling, port_spelling, event_word, act_spelling, command_spelling, document_spelling, endpoint_spelling, spelling, IsNamedTarget, may_follow, IsNamedAct, IsNamedCommand, IsDocument, IsNamedContext, IsFile, IsLine}
-use Rattle.wx_script.proofs.Chosen.{bind_some, chosen}
+use Rattle.wx_id.proofs.OptionLemmas.{bind_some}
+use Rattle.wx_script.proofs.Chosen.{chosen}
 use Rattle.wx_script.proofs.WordLemmas.{parts, two_parts}
 use Rattle.wx_script.proofs.NumberLemmas.{tab_id_read, frame_id_read, count_read}
 
@@ -94,7 +95,7 @@ host_read text l e =
     let q = cond_some _ _ _ e in
     subst (λ l. IsReadAs l (codes "host" ␣ text)) q.1 (record { is_line = q.0; spelled = refl })
 
--- a context by its word and what stands behind the endpoint's name
+-- a context by its word and what stands after the endpoint's name
 record IsReadAsContext (c : NamedContext) (head text : List ℕ) : Type 0 where
   is_context : IsNamedContext c
   spelled : (name : List ℕ) → head ␣ name ␣ text ≡ endpoint_spelling name c

@@ -57,7 +57,7 @@ inserted ks k = rw (is_among-keys ks k) (at (list_any (λ b. bytes_eq (string_by
 
 pub ruleset names = (position-map)
 
--- a new name is put behind the others
+-- a new name is put after the others
 pub added : (name : List ℕ) (names : List (List ℕ)) → is_among name names ≡ false → binding name names ≡ names ++ name ∷ []
 added name names new = rw new refl
 

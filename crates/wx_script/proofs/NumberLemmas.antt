@@ -15,8 +15,9 @@ use Rattle.wx_id.specs.declared.numbers.TabId.{TabId}
 use Rattle.wx_id.specs.declared.numbers.FrameId.{FrameId}
 use Rattle.wx_script.specs.Line.{number_at, count_at, tab_id, tab_id_at, frame_id, frame_id_at, where_so}
 use Rattle.std.specs.Result.{OkIff}
-use Rattle.wx_script.proofs.Chosen.{bind_some}
-use Rattle.wx_script.proofs.WordLemmas.{is_no_space, no_space, IsUtf8-from_list_all}
+use Rattle.wx_id.proofs.OptionLemmas.{bind_some}
+use Rattle.wx_context.proofs.PathLemmas.{IsUtf8-from_list_all}
+use Rattle.wx_script.proofs.WordLemmas.{is_no_space, no_space}
 
 are_digits : IsDigitsTest (λ ds. list_all is_digit ds ≡ true)
 are_digits = record {

@@ -1,4 +1,4 @@
--- The first line of a text, and the lines behind it.
+-- The first line of a text, and the lines after it.
 use Rattle.std.proofs.Common.{◌≡◌, ℕ, ◌+◌, ◌<◌, length, cond, arith, true, false, List, [], ◌∷◌, refl, sym, ap, subst}
 use Rattle.std.specs.List.{onto_first}
 use Rattle.std.specs.Prelude.{Ok, Err, codes}
@@ -37,7 +37,7 @@ less_behind_line text rest some is = rw is (less text some)
           | false ↦ omega (arith, less (c ∷ bs) (omega arith))
         ]
 
--- behind a line that is taken come the lines behind it
+-- after a line that is taken come the lines after it
 pub lines_added-good : (n : ℕ) (d new : Draft) (text line rest : List ℕ) → 0 < length text → line ≡ first_line text → rest ≡ behind_line text → text_added d line ≡ Ok new
     → lines_added n d (lines_of text) ≡ lines_added (n + 1) new (lines_of rest)
 lines_added-good n d new [] line rest some is behind made = absurd (omega (arith, some))

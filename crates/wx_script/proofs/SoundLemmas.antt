@@ -7,6 +7,7 @@ use Rattle.std.specs.Str.{bytes_eq}
 use Rattle.std.proofs.lemmas.Bool.{ltb-true}
 use Rattle.std.proofs.lemmas.Bool.Decides.{nat_tests}
 use Rattle.std.proofs.lemmas.List.Elements.{All-append}
+use Rattle.wx_id.specs.Results.{◌>>=◌}
 use Rattle.wx_id.specs.Ids.{is_extension_id}
 use Rattle.wx_script.specs.declared.script.Act.{Act}
 use Rattle.wx_script.specs.declared.script.Act.TheVariants as act
@@ -25,7 +26,7 @@ use Rattle.wx_script.specs.declared.scene.SceneExtension.{SceneExtension}
 use Rattle.wx_script.specs.Line.{NamedAct, NamedCommand, Line, listen, connect, post, disconnect, send, reply, reply_same, decline, connect_native, send_native, take_one, await_event, echo, plain, repeat, comment, extension, host, endpoint, script, line_at}
 use Rattle.wx_script.specs.Spelling.{IsNamedAct, IsNamedCommand, IsLine}
 use Rattle.wx_script.specs.Names.{place_in, is_among, binding, has_extension, has_host, has_endpoint}
-use Rattle.wx_script.specs.Draft.{Draft, no_variables, fresh, ◌>>=◌, context_of, endpoint_pushed, var, place_or_next, bound, used, json_of, target_of, await_of, act_of, variables_after, named_act, command_by, commands, with_command, act_added, command_added, line_added}
+use Rattle.wx_script.specs.Draft.{Draft, no_variables, fresh, context_of, endpoint_pushed, var, place_or_next, bound, used, json_of, target_of, await_of, act_of, variables_after, named_act, command_by, commands, with_command, act_added, command_added, line_added}
 use Rattle.wx_script.specs.Scene.{line_or_form, text_added, unless_faulty, lines_added}
 use Rattle.wx_script.specs.Sound.{IsSoundAct, IsSoundCommand, IsSound, AreSound}
 use Rattle.wx_script.proofs.LineLemmas.{line_read}

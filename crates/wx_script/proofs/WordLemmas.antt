@@ -1,20 +1,19 @@
--- A word and what stands behind it.
+-- A word and what stands after it.
 use Rattle.std.proofs.Common.{◌≡◌, ◌≢◌, ℕ, suc, ◌+◌, Bool, true, false, not, ◌&&◌, cond, List, [], ◌∷◌, ◌++◌, length, refl, subst, ap, ◌∙◌, arith, Option, None, Some}
 use Rattle.std.specs.Prelude.{◌==◌, IsTrue, nat_le, nat_lt}
 use Rattle.std.specs.List.{list_all}
 use Rattle.std.proofs.lemmas.Bool.{and_parts, eqb-true, ne_eqb}
 use Rattle.std.specs.Str.{IsUtf8, bytes_eq}
 use Rattle.std.specs.Prelude.{codes, get_or, ◌<◌}
-use Rattle.std.specs.List.{AllPass}
-use Rattle.std.proofs.lemmas.Str.{IsUtf8-from_ascii, IsUtf8-drop, IsCharBoundary-after_ascii}
+use Rattle.std.proofs.lemmas.Str.{IsUtf8-drop, IsCharBoundary-after_ascii}
 use Rattle.std.proofs.lemmas.List.{length-append}
 use Rattle.std.proofs.Math.Seq.{get_or-append_seam, drop-append-add}
-use Rattle.std.proofs.lemmas.Str.Ascii.{IsAscii-from_all}
 use Rattle.std.proofs.lemmas.Bool.Decides.{nat_tests}
-use Rattle.std.proofs.lemmas.List.Sums.{AllPass-from_list_all}
-use Rattle.wx_context.specs.Paths.{is_printable, is_page_path}
+use Rattle.wx_context.specs.Paths.{is_printable_byte, is_printable}
+use Rattle.wx_context.proofs.PathLemmas.{IsUtf8-from_list_all, printable_is_utf8}
+use Rattle.wx_id.specs.HostNames.{is_word_byte}
 use Rattle.std.specs.Option.{option_or, unwrap_or}
-use Rattle.wx_script.specs.Words.{behind_slash, file_name, word, rest, behind, is_name, is_word, is_identifier, is_name_byte, is_letter}
+use Rattle.wx_script.specs.Words.{behind_slash, file_name, word, rest, behind, is_name, is_word, is_identifier, is_letter}
 
 abbrev pub is_no_space : ℕ → Bool
 is_no_space b = not (b == 32)
@@ -37,7 +36,7 @@ rest-behind (b ∷ w) more h =
       | false ↦ λ h. rest-behind w more h
     ] h
 
--- a text is its first word and what stands behind it
+-- a text is its first word and what stands after it
 pub parts : (text : List ℕ) → text ≡ word text ++ behind (rest text)
 parts [] = refl
 parts (b ∷ bs) =
@@ -54,32 +53,32 @@ pub no_space : (p : ℕ → Bool) → ((b : ℕ) → p b ≡ true → is_no_spac
 no_space p none [] h = refl
 no_space p none (b ∷ w) h = rw (none b (and_parts (p b) (list_all p w) h).0) (no_space p none w (and_parts (p b) (list_all p w) h).1)
 
-is_no_space-name_byte : (b : ℕ) → is_name_byte b ≡ true → is_no_space b ≡ true
+is_no_space-name_byte : (b : ℕ) → is_word_byte b ≡ true → is_no_space b ≡ true
 is_no_space-name_byte b h =
     elim (b == 32) as (λ t. (b == 32) ≡ t → not t ≡ true) [
-      | true ↦ λ is. let b_is : b ≡ 32 = eqb-true b 32 is in let wrong : is_name_byte 32 ≡ true = rw b_is at h in absurd cc
+      | true ↦ λ is. let b_is : b ≡ 32 = eqb-true b 32 is in let wrong : is_word_byte 32 ≡ true = rw b_is at h in absurd cc
       | false ↦ λ is. refl
     ] refl
 
 -- the bytes of an identifier are bytes of names
-identifier_bytes : (w : List ℕ) → is_identifier w ≡ true → list_all is_name_byte w ≡ true
+identifier_bytes : (w : List ℕ) → is_identifier w ≡ true → list_all is_word_byte w ≡ true
 identifier_bytes [] h = absurd cc
 identifier_bytes (b ∷ w) h =
-    elim (is_letter b) as (λ t. is_letter b ≡ t → (t && list_all is_name_byte w && nat_lt (length w) 32) ≡ true → list_all is_name_byte (b ∷ w) ≡ true) [
+    elim (is_letter b) as (λ t. is_letter b ≡ t → (t && list_all is_word_byte w && nat_lt (length w) 32) ≡ true → list_all is_word_byte (b ∷ w) ≡ true) [
       | true ↦ λ first h.
-          elim (list_all is_name_byte w) as (λ t. list_all is_name_byte w ≡ t → (t && nat_lt (length w) 32) ≡ true → list_all is_name_byte (b ∷ w) ≡ true) [
+          elim (list_all is_word_byte w) as (λ t. list_all is_word_byte w ≡ t → (t && nat_lt (length w) 32) ≡ true → list_all is_word_byte (b ∷ w) ≡ true) [
             | true ↦ λ others h. rw (first, others) refl
             | false ↦ λ others h. absurd cc
           ] refl h
       | false ↦ λ first h. absurd cc
     ] refl h
 
-name_bytes-is_name : (w : List ℕ) → is_name w ≡ true → list_all is_name_byte w ≡ true
+name_bytes-is_name : (w : List ℕ) → is_name w ≡ true → list_all is_word_byte w ≡ true
 name_bytes-is_name w h = identifier_bytes w (and_parts (is_identifier w) (not (bytes_eq w (codes "same"))) h).0
 
 -- a name has no space
 pub name_no_space : (w : List ℕ) → IsTrue (is_name w) → list_all is_no_space w ≡ true
-name_no_space w h = no_space is_name_byte is_no_space-name_byte w (name_bytes-is_name w h)
+name_no_space w h = no_space is_word_byte is_no_space-name_byte w (name_bytes-is_name w h)
 
 -- a name is not `same`
 pub name_not_same : (w : List ℕ) → IsTrue (is_name w) → bytes_eq w (codes "same") ≡ false
@@ -89,23 +88,11 @@ name_not_same w h = is_not (bytes_eq w (codes "same")) (and_parts (is_identifier
     is_not true h = absurd cc
     is_not false h = refl
 
--- a text whose bytes all pass a test that only ASCII passes is UTF-8
-pub IsUtf8-from_list_all : (p : ℕ → Bool) (xs : List ℕ) → ((b : ℕ) → p b ≡ true → b < 128) → list_all p xs ≡ true → IsUtf8 xs
-IsUtf8-from_list_all p xs ascii h =
-    let pass : AllPass p xs = AllPass-from_list_all p xs h in
-    IsUtf8-from_ascii xs (IsAscii-from_all xs (λ k d within. ascii (get_or xs k d) (pass k d within)))
-
-name_byte_is_ascii : (b : ℕ) → is_name_byte b ≡ true → b < 128
+name_byte_is_ascii : (b : ℕ) → is_word_byte b ≡ true → b < 128
 name_byte_is_ascii b h = grind (arith, nat_tests)
 
 pub names_are_utf8 : (w : List ℕ) → is_name w ≡ true → IsUtf8 w
-names_are_utf8 w h = IsUtf8-from_list_all is_name_byte w name_byte_is_ascii (name_bytes-is_name w h)
-
-abbrev is_printable_byte : ℕ → Bool
-is_printable_byte b = nat_le 33 b && nat_le b 126
-
-printable_byte_is_ascii : (b : ℕ) → is_printable_byte b ≡ true → b < 128
-printable_byte_is_ascii b h = grind (arith, nat_tests)
+names_are_utf8 w h = IsUtf8-from_list_all is_word_byte w name_byte_is_ascii (name_bytes-is_name w h)
 
 word_bytes : (w : List ℕ) → is_word w ≡ true → is_printable w ≡ true
 word_bytes [] h = absurd cc
@@ -119,18 +106,7 @@ pub word_no_space : (w : List ℕ) → IsTrue (is_word w) → list_all is_no_spa
 word_no_space w h = no_space is_printable_byte printable_byte_is_no_space w (word_bytes w h)
 
 pub words_are_utf8 : (w : List ℕ) → is_word w ≡ true → IsUtf8 w
-words_are_utf8 w h = IsUtf8-from_list_all is_printable_byte w printable_byte_is_ascii (word_bytes w h)
-
-path_bytes : (w : List ℕ) → is_page_path w ≡ true → is_printable w ≡ true
-path_bytes [] h = absurd cc
-path_bytes (b ∷ w) h =
-    elim (b == 47) as (λ t. (b == 47) ≡ t → (t && is_printable w) ≡ true → is_printable (b ∷ w) ≡ true) [
-      | true ↦ λ is h. let b_is : b ≡ 47 = eqb-true b 47 is in rw (b_is) h
-      | false ↦ λ is h. absurd cc
-    ] refl h
-
-pub paths_are_utf8 : (w : List ℕ) → is_page_path w ≡ true → IsUtf8 w
-paths_are_utf8 w h = IsUtf8-from_list_all is_printable_byte w printable_byte_is_ascii (path_bytes w h)
+words_are_utf8 w h = printable_is_utf8 w (word_bytes w h)
 
 -- ---- a file's own name
 
@@ -154,7 +130,7 @@ behind_slash-none (b ∷ bs) none =
 pub file_name-no_slash : (file : List ℕ) → ((k : ℕ) → k < length file → get_or file k 0 ≢ 47) → file_name file ≡ file
 file_name-no_slash file none = rw (behind_slash-none file none) refl
 
--- what stands behind a `/` of a text is a text
+-- what stands after a `/` of a text is a text
 pub utf8_behind_slash : (text front more : List ℕ) → text ≡ front ++ 47 ∷ more → IsUtf8 text → IsUtf8 more
 utf8_behind_slash text front more is utf8 =
     let whole : IsUtf8 (front ++ 47 ∷ more) = subst IsUtf8 is utf8 in

@@ -18,7 +18,7 @@ MayCome past c (asks x) e = e.call ≡ x
 MayCome past c waits e = (e.call ≡ Take) × IsTrue (has_pending past c)
 MayCome past c ends e = ⊥
 
--- Context c is an endpoint, and the entry is what its script asks for behind the entries before it.
+-- Context c is an endpoint, and the entry is what its script asks for after the entries before it.
 pub record IsAskedOf (scripts : List (List Command)) (past : List Entry) (c : ContextNo) (e : Entry) : Type 0 where
   pub script : List Command
   pub is_endpoint : slice_get scripts c.0 ≡ Some script

@@ -1,5 +1,6 @@
 -- The scene so far, and what one more line makes of it.
 use Rattle.std.specs.Prelude.{ℕ, not, List, [], ◌∷◌, ◌++◌, length, Option, Some, None, ok_or, Result, Ok, Err, ◌==◌, nat_le, if◌then◌else◌}
+use Rattle.wx_id.specs.Results.{◌>>=◌}
 use Rattle.wx_id.specs.Ids.{is_extension_id}
 use Rattle.wx_context.specs.declared.contexts.Context.{Context}
 use Rattle.wx_context.specs.declared.contexts.Context.TheVariants.{Page, Content, Web}
@@ -41,11 +42,6 @@ no_variables = record { channels = []; asked = []; received = [] }
 abbrev pub fresh : Draft
 fresh = record { extensions = []; hosts = []; files = []; endpoints = []; variables = no_variables }
 
-infixl 10 ◌>>=◌
-abbrev pub ◌>>=◌ : {A B : Type 0} → Result A SceneKind → (A → Result B SceneKind) → Result B SceneKind
-(Ok x) >>= f = f x
-(Err k) >>= f = Err k
-
 -- ---- declarations: each test in its order
 
 -- the file of a line, where it names one
@@ -84,7 +80,7 @@ context_of extensions (web document) = do
   url ← web_url document.url
   Ok (Web document.tab document.frame url)
 
--- an endpoint without commands is put behind the others
+-- an endpoint without commands is put after the others
 abbrev pub endpoint_pushed : Draft → List ℕ → Context → Result Draft SceneKind
 endpoint_pushed d name context =
     if nat_le 1024 (length d.endpoints) then Err kind.Many
@@ -102,7 +98,7 @@ abbrev pub place_or_next : Option ℕ → List (List ℕ) → ℕ
 place_or_next None variables = length variables
 place_or_next (Some n) variables = n
 
--- the variable that a command binds: a new one is numbered behind those of its sort that the script binds already
+-- the variable that a command binds: a new one is numbered after those of its sort that the script binds already
 abbrev pub bound : List ℕ → List (List ℕ) → Var
 bound name variables = var (place_or_next (place_in name variables) variables)
 
@@ -170,7 +166,7 @@ act_of extensions variables take_one = Ok act.Take
 act_of extensions variables (await_event awaited name) = await_of variables awaited name
 act_of extensions variables (echo n) = Ok (act.Echo n)
 
--- the variables behind an act
+-- the variables after an act
 abbrev pub variables_after : VariableNames → NamedAct → VariableNames
 variables_after variables (connect name target port) = record variables { channels = binding name variables.channels }
 variables_after variables (await_event event.Connect name) = record variables { channels = binding name variables.channels }

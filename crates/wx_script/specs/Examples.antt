@@ -3,6 +3,8 @@ use Rattle.std.specs.Prelude.{◌≡◌, ℕ, List, [], ◌∷◌, ◌++◌, map
 use Rattle.wx_context.specs.declared.contexts.Context.TheVariants.{Page, Content, Web}
 use Rattle.wx_context.specs.WebUrls.{web_url_of}
 use Rattle.wx_context.specs.declared.contexts.Target.TheVariants.{Own, Other, Tab}
+use Rattle.wx_external.specs.Worked.{id_a}
+use Rattle.wx_machine.specs.Contexts.{deaf}
 use Rattle.wx_script.specs.declared.script.Act.{Act}
 use Rattle.wx_script.specs.declared.script.Act.TheVariants as act
 use Rattle.wx_script.specs.declared.script.Command.{Command}
@@ -13,7 +15,7 @@ use Rattle.wx_script.specs.declared.scene.SceneEndpoint.{SceneEndpoint}
 use Rattle.wx_script.specs.declared.scene.SceneKind.{SceneKind}
 use Rattle.wx_script.specs.declared.scene.SceneKind.TheVariants as kind
 use Rattle.wx_script.specs.declared.scene.SceneFault.{SceneFault}
-use Rattle.wx_script.specs.Line.{Line, line_at, listens_to_nothing, tab_id, frame_id}
+use Rattle.wx_script.specs.Line.{Line, line_at, tab_id, frame_id}
 use Rattle.wx_script.specs.Spelling.{IsLine, spelling}
 use Rattle.wx_script.specs.Draft.{var}
 use Rattle.wx_script.specs.SceneValue.{SceneValue}
@@ -37,9 +39,6 @@ IsScene lines extensions endpoints = scene_with lines ≡ Ok (without_files exte
 -- line n of the scene, the head line being line 1, is the first faulty one
 abbrev pub HasFault : List (List ℕ) → ℕ → SceneKind → Type 0
 HasFault lines n k = scene_with lines ≡ Err (fault_at n k)
-
-abbrev pub id_a : List ℕ
-id_a = codes "aaaaaaaaaaaaaaaaaaaaaaaaaaaaaaaa"
 
 abbrev pub extension_x : List ℕ
 extension_x = codes "extension x aaaaaaaaaaaaaaaaaaaaaaaaaaaaaaaa"
@@ -65,7 +64,7 @@ abbrev pub TwoPages : Type 0
 TwoPages =
     IsScene two_pages x_declared
     (page_of_x (codes "q") (codes "/q") (once (act.Connect (var 0) Own [] ∷ act.Post (var 0) (codes "1") ∷ act.Disconnect (var 0) ∷ []))
-    ∷ page_of_x (codes "p") (codes "/p") (once (act.Listen (record listens_to_nothing { connect = true }) ∷ act.Take ∷ act.Take ∷ act.Take ∷ []))
+    ∷ page_of_x (codes "p") (codes "/p") (once (act.Listen (record deaf { connect = true }) ∷ act.Take ∷ act.Take ∷ act.Take ∷ []))
     ∷ [])
 
 -- variables are numbered in the order in which they are first bound
@@ -118,7 +117,7 @@ Requests =
     IsScene requests x_declared
     (page_of_x (codes "q") (codes "/q") (Plain (act.Send (var 0) Own (codes "1")) ∷ Repeat 2 (act.Send (var 1) Own (codes "[1, 2]")) ∷ Plain (act.AwaitReply (var 0)) ∷ [])
     ∷ page_of_x (codes "p") (codes "/p")
-    (once (act.Listen (record listens_to_nothing { connect = true; message = true }) ∷ act.AwaitRequest (var 0) ∷ act.ReplySame (var 0) ∷ act.AwaitRequest (var 1) ∷ act.Reply (var 1) (codes "1") ∷ act.Decline (var 1) ∷ []))
+    (once (act.Listen (record deaf { connect = true; message = true }) ∷ act.AwaitRequest (var 0) ∷ act.ReplySame (var 0) ∷ act.AwaitRequest (var 1) ∷ act.Reply (var 1) (codes "1") ∷ act.Decline (var 1) ∷ []))
     ∷ [])
 
 -- one name for a channel, a request that was asked and a request that came
@@ -151,7 +150,7 @@ Natives =
     ∷ Plain (act.Post (var 1) (codes "1")) ∷ Plain (act.AwaitReply (var 0)) ∷ [])
     ∷ [])
 
--- each target, and what may stand behind it
+-- each target, and what may stand after it
 abbrev pub targets : List (List ℕ)
 targets =
     extension_x ∷ codes "page p x /p"
@@ -187,7 +186,7 @@ Documents =
     (record { name = codes "c"; context = Content id_a (tab_id 7) (frame_id 1) first; script = [] }
     ∷ record { name = codes "w"; context = Web (tab_id 7) (frame_id 0) second; script = [] } ∷ [])
 
--- a text that is read as no web URL is refused, but behind an undeclared extension and a repeated name
+-- a text that is read as no web URL is refused, but after an undeclared extension and a repeated name
 abbrev pub NoWebUrl : Type 0
 NoWebUrl =
     web_url_of (codes "ftp://a.b/") ≡ None

@@ -10,7 +10,7 @@ use Rattle.wx_script.specs.declared.script.Command.{Command}
 use Rattle.wx_script.specs.Carries.{FollowsScript}
 use Rattle.wx_script.specs.Ends.{script_has_ended}
 
--- behind legal entries that follow the scripts
+-- after legal entries that follow the scripts
 abbrev pub EndsByLeaving : Type 0
 EndsByLeaving =
     (world : WorldLists) (scripts : List (List Command)) (script : List Command) (c : ContextNo) (past : List Entry)

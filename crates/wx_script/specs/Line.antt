@@ -3,10 +3,12 @@ use Rattle.std.specs.Prelude.{ℕ, Bool, true, false, ◌&&◌, List, [], Option
 use Rattle.std.specs.Str.{bytes_eq}
 use Rattle.std.specs.Str.Parse.{digits_value}
 use Rattle.std.specs.List.{starts_with}
+use Rattle.wx_id.specs.Options.{◌>>=◌, where_so}
 use Rattle.wx_id.specs.declared.numbers.TabId.{TabId}
 use Rattle.wx_id.specs.declared.numbers.FrameId.{FrameId}
 use Rattle.wx_context.specs.declared.contexts.Listens.{Listens}
 use Rattle.wx_context.specs.Paths.{is_page_path}
+use Rattle.wx_machine.specs.Contexts.{deaf}
 use Rattle.wx_script.specs.declared.line.Awaited.{Awaited}
 use Rattle.wx_script.specs.declared.line.Awaited.TheVariants as event
 use Rattle.wx_script.specs.Words.{word, rest, is_name, is_word, is_number, is_small, is_count, is_given, is_comment}
@@ -51,7 +53,7 @@ pub data NamedContext : Type 0 where
   content : List ℕ → Document → NamedContext
   web : Document → NamedContext
 
--- a line behind the head line
+-- a line after the head line
 pub data Line : Type 0 where
   comment : List ℕ → Line
   extension : List ℕ → List ℕ → Option (List ℕ) → Line
@@ -59,18 +61,9 @@ pub data Line : Type 0 where
   endpoint : List ℕ → NamedContext → Line
   script : NamedCommand → Line
 
-infixl 10 ◌>>=◌
-abbrev pub ◌>>=◌ : {A B : Type 0} → Option A → (A → Option B) → Option B
-None >>= f = None
-(Some x) >>= f = f x
-
--- the value, where the test holds
-abbrev pub where_so : {A : Type 0} → Bool → A → Option A
-where_so b x = if b then Some x else None
-
 -- ---- names and numbers
 
--- a name with more behind it
+-- a name with more after it
 unfoldable pub name_at : List ℕ → Option (List ℕ × List ℕ)
 name_at text = do
   behind ← rest text
@@ -150,7 +143,7 @@ web_at text = do
   document ← document_at text
   Some (web document)
 
--- the word of a context, and what stands behind the endpoint's name
+-- the word of a context, and what stands after the endpoint's name
 unfoldable pub context_with : List ℕ → List ℕ → Option NamedContext
 context_with head behind =
     if bytes_eq head (codes "page") then page_at behind
@@ -158,14 +151,14 @@ context_with head behind =
     else if bytes_eq head (codes "web") then web_at behind
     else None
 
--- the word of a context, and NAME with what stands behind it
+-- the word of a context, and NAME with what stands after it
 unfoldable pub endpoint_with : List ℕ → List ℕ → Option Line
 endpoint_with head text = do
   name ← name_at text
   context ← context_with head name.1
   Some (endpoint name.0 context)
 
--- the word of a declaration, and what stands behind it
+-- the word of a declaration, and what stands after it
 unfoldable pub declaration_with : List ℕ → List ℕ → Option Line
 declaration_with head behind =
     if bytes_eq head (codes "extension") then extension_at behind
@@ -177,7 +170,7 @@ declaration_at text = rest text >>= declaration_with (word text)
 
 -- ---- what is listened to
 
--- whether the flag is the first word of what is left, and what is left behind it
+-- whether the flag is the first word of what is left, and what is left after it
 unfoldable pub flag_at : List ℕ → Option (List ℕ) → Bool × Option (List ℕ)
 flag_at flag None = (false, None)
 flag_at flag (Some text) = if bytes_eq (word text) flag then (true, rest text) else (false, Some text)
@@ -191,27 +184,23 @@ flags_at text =
     let external_messages = flag_at (codes "external-message") external_connects.1 in
     (record { connect = connects.0; message = messages.0; external_connect = external_connects.0; external_message = external_messages.0 }, external_messages.1)
 
--- to nothing
-abbrev pub listens_to_nothing : Listens
-listens_to_nothing = record { connect = false; message = false; external_connect = false; external_message = false }
-
 -- none | one flag or more
 unfoldable pub listen_at : List ℕ → Option NamedAct
-listen_at text = if bytes_eq text (codes "none") then Some (listen listens_to_nothing) else where_so (is_none (flags_at text).1) (listen (flags_at text).0)
+listen_at text = if bytes_eq text (codes "none") then Some (listen deaf) else where_so (is_none (flags_at text).1) (listen (flags_at text).0)
 
--- ---- targets, with what stands behind the next space, if there is one
+-- ---- targets, with what stands after the next space, if there is one
 
 -- NAME
 unfoldable pub extension_target_at : List ℕ → Option (NamedTarget × Option (List ℕ))
 extension_target_at text = where_so (is_name (word text)) (extension_named (word text), rest text)
 
--- FRAME, behind `frame`
+-- FRAME, after `frame`
 unfoldable pub frame_at : TabId → List ℕ → Option (NamedTarget × Option (List ℕ))
 frame_at t text = do
   f ← frame_id_at (word text)
   Some (tab t (Some f), rest text)
 
--- what stands behind TAB: where its first word is `frame`, FRAME must follow
+-- what stands after TAB: where its first word is `frame`, FRAME must follow
 unfoldable pub tab_with : TabId → Option (List ℕ) → Option (NamedTarget × Option (List ℕ))
 tab_with t None = Some (tab t None, None)
 tab_with t (Some text) = if bytes_eq (word text) (codes "frame") then rest text >>= frame_at t else Some (tab t None, Some text)
@@ -255,7 +244,7 @@ post_at text = do
 unfoldable pub disconnect_at : List ℕ → Option NamedAct
 disconnect_at text = where_so (is_name text) (disconnect text)
 
--- the word of a command on a channel, and what stands behind it
+-- the word of a command on a channel, and what stands after it
 unfoldable pub channel_act_with : List ℕ → List ℕ → Option NamedAct
 channel_act_with head behind =
     if bytes_eq head (codes "connect") then connect_at behind
@@ -278,7 +267,7 @@ ask_at text = do
   json ← rest var.1
   where_so (is_word (word var.1) && is_given json) (send_native var.0 (word var.1) json)
 
--- the word of a command that starts a host, or of one on a channel, and what stands behind it
+-- the word of a command that starts a host, or of one on a channel, and what stands after it
 unfoldable pub native_act_with : List ℕ → List ℕ → Option NamedAct
 native_act_with head behind =
     if bytes_eq head (codes "native") then native_at behind
@@ -295,7 +284,7 @@ send_at text = do
   json ← target.1
   where_so (is_given json) (send var.0 target.0 json)
 
--- same VAR | VAR JSON, by the first word and what stands behind it
+-- same VAR | VAR JSON, by the first word and what stands after it
 unfoldable pub reply_with : List ℕ → List ℕ → Option NamedAct
 reply_with head behind =
     if bytes_eq head (codes "same") then where_so (is_name behind) (reply_same behind)
@@ -308,7 +297,7 @@ reply_at text = rest text >>= reply_with (word text)
 unfoldable pub decline_at : List ℕ → Option NamedAct
 decline_at text = where_so (is_name text) (decline text)
 
--- the word of a command on a request, and what stands behind it
+-- the word of a command on a request, and what stands after it
 unfoldable pub request_act_with : List ℕ → List ℕ → Option NamedAct
 request_act_with head behind =
     if bytes_eq head (codes "send") then send_at behind
@@ -341,7 +330,7 @@ echo_at text = do
   n ← count_at text
   Some (echo n)
 
--- the word of a command, and what stands behind it
+-- the word of a command, and what stands after it
 unfoldable pub act_with : List ℕ → List ℕ → Option NamedAct
 act_with head behind =
     if bytes_eq head (codes "listen") then listen_at behind

@@ -13,7 +13,7 @@ place_in name names = position (bytes_eq name) names
 abbrev pub is_among : List ℕ → List (List ℕ) → Bool
 is_among name names = is_some (place_in name names)
 
--- the names, with one that is put behind them where it is not among them
+-- the names, with one that is put after them where it is not among them
 abbrev pub binding : List ℕ → List (List ℕ) → List (List ℕ)
 binding name names = if is_among name names then names else names ++ name ∷ []
 

@@ -62,7 +62,7 @@ pub data Next : Type 0 where
   asks : Call → Next
   -- a `take` as soon as an event is pending
   waits : Next
-  -- nothing, behind its `leave`
+  -- nothing, after its `leave`
   ends : Next
 
 -- what an act begins with
@@ -127,7 +127,7 @@ abbrev pub asks_answer : Heard → Option (List ℕ) → Next
 asks_answer came None = waits
 asks_answer came (Some text) = asks (answer_by came text)
 
--- what comes next of what begins so, behind these entries
+-- what comes next of what begins so, after these entries
 abbrev pub next_from : List Entry → Beginning → Next
 next_from past (calls x) = asks x
 next_from past awaits = waits
@@ -137,12 +137,12 @@ abbrev pub next_or_end : List Entry → Option Beginning → Next
 next_or_end past None = ends
 next_or_end past (Some beginning) = next_from past beginning
 
--- what the first act begins with; behind the last act comes a `leave`
+-- what the first act begins with; after the last act comes a `leave`
 abbrev pub asks_first : List Entry → Variables → List Act → Next
 asks_first past variables [] = asks call.Leave
 asks_first past variables (a ∷ acts) = next_or_end past (begins_with variables a)
 
--- what comes next at a place, behind these entries
+-- what comes next at a place, after these entries
 abbrev pub next_at : List Entry → Place → Next
 next_at past outside = enters
 next_at past (within unbegun acts variables) = asks_first past variables (unskipped variables acts)
@@ -150,7 +150,7 @@ next_at past (within (echoing n) acts variables) = waits
 next_at past (within (answering n came e) acts variables) = asks_answer came (text_of past e)
 next_at past left = ends
 
--- ---- the place behind an entry
+-- ---- the place after an entry
 
 -- the channel that an answer gives
 abbrev pub channel_in : Answer → Option ChannelNo
@@ -192,13 +192,13 @@ set_by variables (act.AwaitConnect v) e (kind.Connected k) = set_channel variabl
 set_by variables (act.AwaitRequest v) e (kind.Asked r) = set_received variables v (Some (record { request = r; entry = e }))
 set_by variables _ e _ = variables
 
--- behind an event that an await takes: an event that is not wanted is passed over
+-- after an event that an await takes: an event that is not wanted is passed over
 abbrev pub behind_await : Variables → Act → List Act → Option Event → Place
 behind_await variables a acts None = within unbegun (a ∷ acts) variables
 behind_await variables a acts (Some event) =
     if is_wanted variables a event.kind then within unbegun acts (set_by variables a event.entry event.kind) else within unbegun (a ∷ acts) variables
 
--- behind an event that an echo takes: a message and a request are to be answered, and every other event is passed over
+-- after an event that an echo takes: a message and a request are to be answered, and every other event is passed over
 abbrev pub behind_kind : ℕ → EntryNo → EventKind → Progress
 behind_kind n e (kind.Message k) = answering n (heard.Message k) e
 behind_kind n e (kind.Asked r) = answering n (heard.Request r) e
@@ -233,16 +233,16 @@ abbrev pub behind_first : Variables → Answer → List Act → Place
 behind_first variables answer [] = left
 behind_first variables answer (a ∷ acts) = behind_act variables answer a acts
 
--- behind an answer of an echo, which ends it where it is the last
+-- after an answer of an echo, which ends it where it is the last
 abbrev pub behind_answer : ℕ → List Act → Variables → Place
 behind_answer n [] variables = within unbegun [] variables
 behind_answer n (a ∷ acts) variables = if nat_le n 1 then within unbegun acts variables else within (echoing (n - 1)) (a ∷ acts) variables
 
--- behind the `enter` every act is left, and no variable is set
+-- after the `enter` every act is left, and no variable is set
 abbrev pub at_start : List Command → Place
 at_start script = within unbegun (acts_of script) (unset (length script))
 
--- the place behind an own entry with this answer
+-- the place after an own entry with this answer
 abbrev pub place_behind : List Command → Place → Answer → Place
 place_behind script outside answer = at_start script
 place_behind script (within unbegun acts variables) answer = behind_first variables answer (unskipped variables acts)
@@ -250,17 +250,17 @@ place_behind script (within (echoing n) acts variables) answer = within (behind_
 place_behind script (within (answering n came e) acts variables) answer = behind_answer n acts variables
 place_behind script left answer = left
 
--- the place behind the `leave`
+-- the place after the `leave`
 abbrev pub is_left : Place → Bool
 is_left outside = false
 is_left (within progress acts variables) = false
 is_left left = true
 
--- the place of context c behind one more entry, which changes it only where it is c's own
+-- the place of context c after one more entry, which changes it only where it is c's own
 abbrev pub behind_entry : List Command → ContextNo → Place → Entry → Place
 behind_entry script c place e = if is_by e.who c then place_behind script place e.answer else place
 
--- the place of context c behind these entries, the newest first
+-- the place of context c after these entries, the newest first
 unfoldable pub place_of : List Command → ContextNo → List Entry → Place
 place_of script c [] = outside
 place_of script c (e ∷ past) = behind_entry script c (place_of script c past) e

@@ -13,7 +13,7 @@ abbrev pub first_line : List ℕ → List ℕ
 first_line [] = []
 first_line (b ∷ bs) = if is_line_feed b then [] else b ∷ first_line bs
 
--- what stands behind the first line feed
+-- what stands after the first line feed
 abbrev pub behind_line : List ℕ → List ℕ
 behind_line [] = []
 behind_line (b ∷ bs) = if is_line_feed b then bs else behind_line bs

@@ -33,7 +33,7 @@ flags l = unwrap_or (flag_words l) (codes "none")
 
 -- ---- acts
 
--- a target, and what stands behind it, if there is something
+-- a target, and what stands after it, if there is something
 abbrev pub target_spelling : NamedTarget → Option (List ℕ) → List ℕ
 target_spelling own more = codes "own" ++ behind more
 target_spelling (extension_named name) more = codes "ext" ␣ (name ++ behind more)
@@ -96,7 +96,7 @@ IsNamedTarget (extension_named name) = IsTrue (is_name name)
 IsNamedTarget (tab t None) = IsTrue (is_small t.0)
 IsNamedTarget (tab t (Some f)) = IsTrue (is_small t.0) × IsTrue (is_small f.0)
 
--- what may stand behind a target: behind a tab no text whose first word is `frame`
+-- what may stand after a target: after a tab no text whose first word is `frame`
 abbrev pub may_follow : NamedTarget → Option (List ℕ) → Bool
 may_follow (tab t None) (Some text) = not (bytes_eq (word text) (codes "frame"))
 may_follow _ _ = true

@@ -4,18 +4,19 @@ use Rattle.std.specs.List.{list_all}
 use Rattle.std.specs.Option.{option_or, unwrap_or}
 use Rattle.std.specs.Str.{bytes_eq}
 use Rattle.wx_context.specs.Paths.{is_printable}
+use Rattle.wx_id.specs.HostNames.{is_word_byte}
 
 -- the bytes up to the first space
 abbrev pub word : List ℕ → List ℕ
 word [] = []
 word (b ∷ bs) = if b == 32 then [] else b ∷ word bs
 
--- what stands behind the first space, if there is one
+-- what stands after the first space, if there is one
 abbrev pub rest : List ℕ → Option (List ℕ)
 rest [] = None
 rest (b ∷ bs) = if b == 32 then Some bs else rest bs
 
--- a space and what stands behind it, if there is something
+-- a space and what stands after it, if there is something
 abbrev pub behind : Option (List ℕ) → List ℕ
 behind None = []
 behind (Some text) = 32 ∷ text
@@ -32,14 +33,10 @@ is_given (b ∷ bs) = true
 abbrev pub is_letter : ℕ → Bool
 is_letter b = nat_le 97 b && nat_le b 122
 
--- `a` to `z`, `0` to `9`, `_`
-abbrev pub is_name_byte : ℕ → Bool
-is_name_byte b = is_letter b || is_digit b || b == 95
-
 -- a letter, and up to 31 bytes more
 abbrev pub is_identifier : List ℕ → Bool
 is_identifier [] = false
-is_identifier (b ∷ bs) = is_letter b && list_all is_name_byte bs && nat_lt (length bs) 32
+is_identifier (b ∷ bs) = is_letter b && list_all is_word_byte bs && nat_lt (length bs) 32
 
 -- the name of an extension, an endpoint or a variable: `same` is none
 abbrev pub is_name : List ℕ → Bool
@@ -68,11 +65,11 @@ abbrev pub is_comment : List ℕ → Bool
 is_comment [] = true
 is_comment (b ∷ bs) = b == 35
 
--- what stands behind the last `/`, if there is one
+-- what stands after the last `/`, if there is one
 abbrev pub behind_slash : List ℕ → Option (List ℕ)
 behind_slash [] = None
 behind_slash (b ∷ bs) = option_or (behind_slash bs) (if b == 47 then Some bs else None)
 
--- a file's own name: the part behind the last `/`, which is the whole where there is none
+-- a file's own name: the part after the last `/`, which is the whole where there is none
 abbrev pub file_name : List ℕ → List ℕ
 file_name file = unwrap_or (behind_slash file) file

@@ -1,3 +1,4 @@
+//! The scene so far: each line is judged against it, and added.
 ghost use Rattle.std.specs.Prelude.{◌≡◌, MatchResult, OnOk, IfOk, ◌<◌, length, IsTrue, option_copied};
 ghost use Rattle.wx_context.specs.Paths.{is_page_path};
 ghost use Rattle.wx_script.specs.Adding.{so_far, MakesDraft, MakesResult, IsIndexed};
@@ -249,7 +250,8 @@ fn add_extension(
     file: Option<&str>,
 ) -> Result<(), LineFault>
     requires { IsIndexed draft.old }
-    ensures made { MakesDraft (so_far draft.new) result (extension_added (so_far draft.old) name.now id.now (option_copied file.entry)) }
+    ensures made { MakesDraft (so_far draft.new) result
+        (extension_added (so_far draft.old) name.now id.now (option_copied file.entry)) }
     ensures indexed { OnOk result (IsIndexed draft.new) }
 {
     let Ok(id) = ExtensionId::read(id) else {
@@ -318,7 +320,8 @@ fn add_endpoint(
 ) -> Result<(), LineFault>
     requires spelled { IsNamedContext (context_view context) }
     requires indexed { IsIndexed draft.old }
-    ensures made { MakesDraft (so_far draft.new) result (endpoint_added (so_far draft.old) name.now (context_view context.entry)) }
+    ensures made { MakesDraft (so_far draft.new) result
+        (endpoint_added (so_far draft.old) name.now (context_view context.entry)) }
     ensures indexed { OnOk result (IsIndexed draft.new) }
 {
     if draft.has_endpoint(name) {
@@ -446,7 +449,8 @@ impl<'a> NamedCommand<'a> {
 #[tactic(auto, using(crate::proofs::NameLemmas::declared))]
 fn add_command(draft: &mut Draft, alloc: Global, command: NamedCommand<'_>) -> Result<(), LineFault>
     requires { IsIndexed draft.old }
-    ensures made { MakesDraft (so_far draft.new) result (command_added (so_far draft.old) (command_view command.entry)) }
+    ensures made { MakesDraft (so_far draft.new) result
+        (command_added (so_far draft.old) (command_view command.entry)) }
     ensures indexed { OnOk result (IsIndexed draft.new) }
 {
     if draft.endpoints.is_empty() {

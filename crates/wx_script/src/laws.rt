@@ -43,28 +43,43 @@ pub fn faults()
     ensures no_bytes { scene_of [] ≡ Err (fault_at 1 kind.Head) }
     ensures behind_comments { HasFault ([] ∷ codes "# take" ∷ [] ∷ codes "take" ∷ []) 5 kind.Form }
     ensures head_line_twice { HasFault (codes "wx scene 1 chrome" ∷ []) 2 kind.Form }
-    ensures last_line_without_line_feed { scene_of (codes "wx scene 1 chrome" ++ 10 ∷ codes "page p x /p") ≡ Err (fault_at 2 kind.Unknown) }
+    ensures last_line_without_line_feed { scene_of (codes "wx scene 1 chrome" ++ 10 ∷ codes "page p x /p")
+        ≡ Err (fault_at 2 kind.Unknown) }
     ensures take_above_every_endpoint { HasFault (codes "  take" ∷ []) 2 kind.Order }
     ensures short_id { HasFault (codes "extension x abc" ∷ []) 2 kind.Id }
-    ensures id_again { HasFault (extension_x ∷ codes "extension y aaaaaaaaaaaaaaaaaaaaaaaaaaaaaaaa" ∷ []) 3 kind.Repeated }
+    ensures id_again { HasFault
+        (extension_x ∷ codes "extension y aaaaaaaaaaaaaaaaaaaaaaaaaaaaaaaa" ∷ []) 3 kind.Repeated }
     ensures undeclared_extension { HasFault (codes "page p x /p" ∷ []) 2 kind.Unknown }
     ensures two_spaces { HasFault (extension_x ∷ codes "page  p x /p" ∷ []) 3 kind.Form }
-    ensures post_without_connect { HasFault (extension_x ∷ codes "page p x /p" ∷ codes "  post ch 1" ∷ []) 4 kind.Unbound }
-    ensures await_without_connect { HasFault (extension_x ∷ codes "page p x /p" ∷ codes "  await message ch" ∷ []) 4 kind.Unbound }
-    ensures repeat_of_repeat { HasFault (extension_x ∷ codes "page p x /p" ∷ codes "  repeat 2 repeat 2 take" ∷ []) 4 kind.Form }
+    ensures post_without_connect { HasFault
+        (extension_x ∷ codes "page p x /p" ∷ codes "  post ch 1" ∷ []) 4 kind.Unbound }
+    ensures await_without_connect { HasFault
+        (extension_x ∷ codes "page p x /p" ∷ codes "  await message ch" ∷ []) 4 kind.Unbound }
+    ensures repeat_of_repeat { HasFault
+        (extension_x ∷ codes "page p x /p" ∷ codes "  repeat 2 repeat 2 take" ∷ []) 4 kind.Form }
     ensures leading_zero { HasFault (extension_x ∷ codes "page p x /p" ∷ codes "  repeat 01 take" ∷ []) 4 kind.Form }
     ensures no_times { HasFault (extension_x ∷ codes "page p x /p" ∷ codes "  echo 0" ∷ []) 4 kind.Form }
-    ensures no_json_text { HasFault (extension_x ∷ codes "page p x /p" ∷ codes "  connect ch own" ∷ codes "  post ch {" ∷ []) 5 kind.Json }
-    ensures unbound_before_json { HasFault (extension_x ∷ codes "page p x /p" ∷ codes "  post ch {" ∷ []) 4 kind.Unbound }
+    ensures no_json_text { HasFault
+        (extension_x ∷ codes "page p x /p" ∷ codes "  connect ch own" ∷ codes "  post ch {" ∷ []) 5 kind.Json }
+    ensures unbound_before_json { HasFault
+        (extension_x ∷ codes "page p x /p" ∷ codes "  post ch {" ∷ []) 4 kind.Unbound }
     ensures files_of_one_name { HasFault (codes "host a/e.json" ∷ codes "host b/e.json" ∷ []) 3 kind.Repeated }
-    ensures another_sort_of_variable { HasFault (extension_x ∷ codes "page p x /p" ∷ codes "  send r own 1" ∷ codes "  reply r 1" ∷ []) 5 kind.Unbound }
-    ensures native_channel_awaited_as_a_request { HasFault (extension_x ∷ codes "page p x /p" ∷ codes "  native n e" ∷ codes "  await reply n" ∷ []) 5 kind.Unbound }
-    ensures request_of_a_host_used_as_a_channel { HasFault (extension_x ∷ codes "page p x /p" ∷ codes "  ask r e 1" ∷ codes "  post r 1" ∷ []) 5 kind.Unbound }
+    ensures another_sort_of_variable { HasFault
+        (extension_x ∷ codes "page p x /p" ∷ codes "  send r own 1" ∷ codes "  reply r 1" ∷ []) 5 kind.Unbound }
+    ensures native_channel_awaited_as_a_request { HasFault
+        (extension_x ∷ codes "page p x /p" ∷ codes "  native n e" ∷ codes "  await reply n" ∷ []) 5 kind.Unbound }
+    ensures request_of_a_host_used_as_a_channel { HasFault
+        (extension_x ∷ codes "page p x /p" ∷ codes "  ask r e 1" ∷ codes "  post r 1" ∷ []) 5 kind.Unbound }
     ensures ask_without_json { HasFault (extension_x ∷ codes "page p x /p" ∷ codes "  ask r e" ∷ []) 4 kind.Form }
     ensures ask_of_no_json_text { HasFault (extension_x ∷ codes "page p x /p" ∷ codes "  ask r e {" ∷ []) 4 kind.Json }
-    ensures flags_in_another_order { HasFault (extension_x ∷ codes "page p x /p" ∷ codes "  listen message connect" ∷ []) 4 kind.Form }
-    ensures frame_without_json { HasFault (extension_x ∷ codes "page p x /p" ∷ codes "  send r tab 7 frame 1" ∷ []) 4 kind.Form }
-    ensures frame_behind_two_spaces { HasFault (extension_x ∷ codes "page p x /p" ∷ codes "  send r tab 7  frame 1" ∷ []) 4 kind.Json }
-    ensures unknown_before_json { HasFault (extension_x ∷ codes "page p x /p" ∷ codes "  send r ext y {" ∷ []) 4 kind.Unknown }
-    ensures repeated_before_unknown { HasFault (extension_x ∷ codes "page p x /p" ∷ codes "page p nobody /p" ∷ []) 4 kind.Repeated }
+    ensures flags_in_another_order { HasFault
+        (extension_x ∷ codes "page p x /p" ∷ codes "  listen message connect" ∷ []) 4 kind.Form }
+    ensures frame_without_json { HasFault
+        (extension_x ∷ codes "page p x /p" ∷ codes "  send r tab 7 frame 1" ∷ []) 4 kind.Form }
+    ensures frame_behind_two_spaces { HasFault
+        (extension_x ∷ codes "page p x /p" ∷ codes "  send r tab 7  frame 1" ∷ []) 4 kind.Json }
+    ensures unknown_before_json { HasFault
+        (extension_x ∷ codes "page p x /p" ∷ codes "  send r ext y {" ∷ []) 4 kind.Unknown }
+    ensures repeated_before_unknown { HasFault
+        (extension_x ∷ codes "page p x /p" ∷ codes "page p nobody /p" ∷ []) 4 kind.Repeated }
 {}

@@ -3,16 +3,12 @@
 
 mod draft;
 pub mod endings;
-#[cfg(test)]
-mod fault_tests;
 pub mod laws;
 mod line;
 mod names;
 mod reading;
 mod scene;
 mod script;
-#[cfg(test)]
-mod tests;
 mod word;
 
 pub use scene::{

@@ -1,3 +1,4 @@
+//! Which line a text is, by its words alone.
 ghost use Rattle.std.specs.Prelude.{◌≡◌, IfSome, IfNone, option_copied};
 ghost use Rattle.std.specs.Option.{option_map};
 ghost use Rattle.wx_script.specs.Line as forms;
@@ -74,7 +75,7 @@ pub(crate) enum NamedContext<'a> {
     Web(Document<'a>),
 }
 
-/// A line of a scene behind its head line.
+/// A line of a scene after its head line.
 #[derive(Clone, Copy)]
 pub(crate) enum Line<'a> {
     /// An empty line, or one that begins with `#`.
@@ -87,7 +88,7 @@ pub(crate) enum Line<'a> {
     Script(NamedCommand<'a>),
 }
 
-/// The file that stands behind an id, if one does.
+/// The file that stands after an id, if one does.
 #[tactic(auto, unfolding(crate::specs::Line::file_at))]
 fn file_of(text: Option<&[u8]>) -> Option<Option<&str>>
     ensures { option_map option_copied result ≡ forms.file_at (option_copied text.entry) }
@@ -156,7 +157,7 @@ fn web_of(text: &[u8]) -> Option<NamedContext<'_>>
     Some(NamedContext::Web(document_of(text)?))
 }
 
-/// A context, by its word and what stands behind the endpoint's name.
+/// A context, by its word and what stands after the endpoint's name.
 #[tactic(auto, unfolding(crate::specs::Line::context_with))]
 fn context_of<'a>(word: &[u8], rest: &'a [u8]) -> Option<NamedContext<'a>>
     ensures { option_map context_view result ≡ forms.context_with word.now rest.now }
@@ -181,7 +182,7 @@ fn endpoint_of<'a>(word: &[u8], text: &'a [u8]) -> Option<Line<'a>>
     Some(Line::Endpoint(name, context))
 }
 
-/// Whether the flag is the first word of what is left, and what is left behind it.
+/// Whether the flag is the first word of what is left, and what is left after it.
 #[tactic(auto, unfolding(crate::specs::Line::flag_at))]
 fn flag<'a>(flag: &[u8], left: Option<&'a [u8]>) -> (bool, Option<&'a [u8]>)
     ensures { (result.0, option_copied result.1) ≡ forms.flag_at flag.now (option_copied left.entry) }
@@ -197,7 +198,7 @@ fn flag<'a>(flag: &[u8], left: Option<&'a [u8]>) -> (bool, Option<&'a [u8]>)
     }
 }
 
-/// What the flags in front listen to, and what is left behind them.
+/// What the flags in front listen to, and what is left after them.
 #[tactic(auto, unfolding(crate::specs::Line::flags_at))]
 fn flags(text: &[u8]) -> (Listens, Option<&[u8]>)
     ensures { (result.0, option_copied result.1) ≡ forms.flags_at text.now }
@@ -236,7 +237,7 @@ fn listen_of(text: &[u8]) -> Option<NamedAct<'_>>
     }
 }
 
-/// An extension as a target, and what stands behind the next space.
+/// An extension as a target, and what stands after the next space.
 #[tactic(auto, unfolding(crate::specs::Line::extension_target_at))]
 fn extension_target_of(text: &[u8]) -> Option<(NamedTarget<'_>, Option<&[u8]>)>
     ensures { option_map target_and_rest_view result ≡ forms.extension_target_at text.now }
@@ -246,7 +247,7 @@ fn extension_target_of(text: &[u8]) -> Option<(NamedTarget<'_>, Option<&[u8]>)>
     Some((NamedTarget::Extension(name), rest))
 }
 
-/// A frame of a tab, by what stands behind `frame`.
+/// A frame of a tab, by what stands after `frame`.
 #[tactic(auto, unfolding(crate::specs::Line::frame_at))]
 fn frame_of(tab: TabId, text: &[u8]) -> Option<(NamedTarget<'_>, Option<&[u8]>)>
     ensures { option_map target_and_rest_view result ≡ forms.frame_at tab text.now }
@@ -256,7 +257,7 @@ fn frame_of(tab: TabId, text: &[u8]) -> Option<(NamedTarget<'_>, Option<&[u8]>)>
     Some((NamedTarget::Tab(tab, Some(frame)), rest))
 }
 
-/// A tab or a frame of it, by what stands behind the tab.
+/// A tab or a frame of it, by what stands after the tab.
 #[tactic(auto, unfolding(crate::specs::Line::tab_with))]
 fn tab_or_frame<'a>(
     tab: TabId,
@@ -284,7 +285,7 @@ fn tab_of(text: &[u8]) -> Option<(NamedTarget<'_>, Option<&[u8]>)>
     tab_or_frame(tab, rest)
 }
 
-/// A target, and what stands behind the next space.
+/// A target, and what stands after the next space.
 #[tactic(auto, unfolding(crate::specs::Line::target_at))]
 fn target_of(text: &[u8]) -> Option<(NamedTarget<'_>, Option<&[u8]>)>
     ensures { option_map target_and_rest_view result ≡ forms.target_at text.now }
@@ -301,7 +302,7 @@ fn target_of(text: &[u8]) -> Option<(NamedTarget<'_>, Option<&[u8]>)>
     }
 }
 
-/// The port name behind a target, empty where none is given.
+/// The port name after a target, empty where none is given.
 #[tactic(auto, unfolding(crate::specs::Line::port_name_at))]
 fn port_name_of(text: Option<&[u8]>) -> Option<&str>
     ensures { option_copied result ≡ forms.port_name_at (option_copied text.entry) }
@@ -341,7 +342,7 @@ fn disconnect_of(text: &[u8]) -> Option<NamedAct<'_>>
     Some(NamedAct::Disconnect(name(text)?))
 }
 
-/// An act on a channel, by its first word and what stands behind that.
+/// An act on a channel, by its first word and what stands after that.
 #[tactic(auto, unfolding(crate::specs::Line::channel_act_with))]
 fn channel_act_of<'a>(word: &[u8], rest: &'a [u8]) -> Option<NamedAct<'a>>
     ensures { option_map act_view result ≡ forms.channel_act_with word.now rest.now }
@@ -381,7 +382,7 @@ fn ask_of(text: &[u8]) -> Option<NamedAct<'_>>
     }
 }
 
-/// An act that starts a native host, or one on a channel, by its first word and what stands behind that.
+/// An act that starts a native host, or one on a channel, by its first word and what stands after that.
 #[tactic(auto, unfolding(crate::specs::Line::native_act_with))]
 fn native_act_of<'a>(word: &[u8], rest: &'a [u8]) -> Option<NamedAct<'a>>
     ensures { option_map act_view result ≡ forms.native_act_with word.now rest.now }
@@ -433,7 +434,7 @@ fn decline_of(text: &[u8]) -> Option<NamedAct<'_>>
     Some(NamedAct::Decline(name(text)?))
 }
 
-/// An act on a request or a channel, by its first word and what stands behind that.
+/// An act on a request or a channel, by its first word and what stands after that.
 #[tactic(auto, unfolding(crate::specs::Line::request_act_with))]
 fn request_act_of<'a>(word: &[u8], rest: &'a [u8]) -> Option<NamedAct<'a>>
     ensures { option_map act_view result ≡ forms.request_act_with word.now rest.now }

@@ -1,3 +1,4 @@
+//! Names that are found by their hash.
 ghost use Rattle.std.specs.Prelude.{◌≡◌, ◌<◌, [], length, IfSome, OnOk, OnErr};
 ghost use Rattle.wx_script.specs.Names.{place_in, is_among, binding};
 ghost use Rattle.wx_script.specs.Draft.{no_variables};
@@ -53,7 +54,7 @@ impl Names {
         self.names.len()
     }
 
-    /// Adds a name behind the others, where it is not among them.
+    /// Adds a name after the others, where it is not among them.
     pub(crate) fn add(&mut self, alloc: Global, name: &str) -> Result<(), AllocError>
         ensures ok { OnOk result (self.new ≡ binding name.now self.old) }
         ensures err { OnErr result (self.new ≡ self.old) }

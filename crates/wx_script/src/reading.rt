@@ -1,3 +1,4 @@
+//! Reading a scene line by line.
 ghost use Rattle.std.specs.Prelude.{◌≡◌, ◌<◌, ◌^◌, length, OnOk, IfErr};
 ghost use Rattle.wx_script.specs.Adding.{so_far, IsIndexed, MakesDraft};
 ghost use Rattle.wx_script.specs.Draft.{fresh};
@@ -13,7 +14,7 @@ use std::alloc::Global;
 /// The first line of every scene.
 const HEAD: &[u8; 17] = b"wx scene 1 chrome";
 
-/// The bytes up to the first line feed, and what stands behind it.
+/// The bytes up to the first line feed, and what stands after it.
 fn split_line(text: &[u8]) -> (&[u8], &[u8])
     ensures line { result.0.now ≡ first_line text.now }
     ensures rest { result.1.now ≡ behind_line text.now }
@@ -43,7 +44,7 @@ fn bad(line: u64, kind: SceneKind) -> SceneReadFault
     SceneReadFault::Bad(SceneFault { line, kind })
 }
 
-/// Takes the lines behind the head line.
+/// Takes the lines after the head line.
 #[tactic(auto, using(crate::proofs::ReadingLemmas::lines))]
 fn add_lines(draft: &mut Draft, alloc: Global, text: &[u8]) -> Result<(), SceneReadFault>
     requires numbers { length text.now < 2 ^ 63 }
@@ -65,7 +66,7 @@ fn add_lines(draft: &mut Draft, alloc: Global, text: &[u8]) -> Result<(), SceneR
     Ok(())
 }
 
-/// The scene of the lines behind the head line.
+/// The scene of the lines after the head line.
 fn read_body(alloc: Global, text: &[u8]) -> Result<Scene, SceneReadFault>
     requires { length text.now < 2 ^ 63 }
     ensures { ReadsResult result (scene_from (lines_added 2 fresh (lines_of text.now))) }

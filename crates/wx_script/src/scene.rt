@@ -1,3 +1,4 @@
+//! A scene: extensions, hosts, files and endpoints.
 ghost use Rattle.std.specs.Prelude.{◌≡◌};
 ghost use Rattle.wx_script.specs.Sound.{AreSound};
 
@@ -107,7 +108,12 @@ impl Model for Scene {
 
     ghost Value = { SceneValue };
 
-    ghost view = { λ scene. record { extensions = scene.extensions.items; hosts = scene.hosts.items; files = scene.files.items; endpoints = scene.endpoints.items } };
+    ghost view = { λ scene. record {
+      extensions = scene.extensions.items;
+      hosts = scene.hosts.items;
+      files = scene.files.items;
+      endpoints = scene.endpoints.items;
+    } };
 
     ghost invariant = { λ scene. AreSound scene.endpoints.items };
 }
@@ -121,7 +127,12 @@ impl Scene {
         endpoints: Vec<SceneEndpoint>,
     ) -> Scene
         requires { AreSound endpoints.items }
-        ensures { result ≡ record { extensions = extensions.items; hosts = hosts.items; files = files.items; endpoints = endpoints.items } }
+        ensures { result ≡ record {
+          extensions = extensions.items;
+          hosts = hosts.items;
+          files = files.items;
+          endpoints = endpoints.items;
+        } }
     {
         Scene {
             extensions,

@@ -1,3 +1,4 @@
+//! A script: the commands of one endpoint.
 ghost use Rattle.std.specs.Prelude.{◌≡◌, [], ◌∷◌, ◌++◌, length, slice_get, option_copied, OnOk, OnErr};
 
 use std::alloc::{AllocError, Global};
@@ -101,7 +102,7 @@ impl Script {
         }
     }
 
-    /// Adds a command behind the others.
+    /// Adds a command after the others.
     pub fn push(&mut self, command: Command) -> Result<(), AllocError>
         ensures ok { OnOk result (self.new ≡ self.old ++ command ∷ []) }
         ensures err { OnErr result (self.new ≡ self.old) }

@@ -1,14 +1,17 @@
+//! Words, names and numbers of a line.
 ghost use Rattle.std.specs.Prelude.{◌≡◌};
 ghost use Rattle.std.specs.List.{list_all};
 ghost use Rattle.std.specs.Option.{option_map};
 ghost use Rattle.wx_context.specs.Paths as texts;
+ghost use Rattle.wx_id.specs.HostNames.{is_word_byte};
+ghost use Rattle.wx_id.specs.Options.{where_so};
 ghost use Rattle.wx_script.specs.Words as words;
 ghost use Rattle.wx_script.specs.Line as forms;
 
 use wx_context::{are_printable, is_page_path};
-use wx_id::{FrameId, TabId};
+use wx_id::{FrameId, TabId, is_word_byte};
 
-/// The bytes up to the first space, and what stands behind that space.
+/// The bytes up to the first space, and what stands after that space.
 pub(crate) fn split_word(text: &[u8]) -> (&[u8], Option<&[u8]>)
     ensures word { result.0.now ≡ words.word text.now }
     ensures rest { option_map (λ rest. rest.now) result.1 ≡ words.rest text.now }
@@ -21,16 +24,10 @@ pub(crate) fn split_word(text: &[u8]) -> (&[u8], Option<&[u8]>)
     (text, None)
 }
 
-fn is_name_byte(byte: u8) -> bool
-    ensures { result ≡ words.is_name_byte byte }
-{
-    byte.is_ascii_lowercase() || byte.is_ascii_digit() || byte == b'_'
-}
-
 fn are_name_bytes(text: &[u8]) -> bool
-    ensures { result ≡ list_all words.is_name_byte text.now }
+    ensures { result ≡ list_all is_word_byte text.now }
 {
-    text.iter().all(|byte| is_name_byte(*byte))
+    text.iter().all(|byte| is_word_byte(*byte))
 }
 
 fn is_identifier(text: &[u8]) -> bool
@@ -53,7 +50,7 @@ fn is_name(text: &[u8]) -> bool
 /// The name that a word is.
 #[tactic(auto, using(crate::proofs::WordLemmas::names_are_utf8))]
 pub(crate) fn name(word: &[u8]) -> Option<&str>
-    ensures { option_map (λ name. name.now) result ≡ forms.where_so (words.is_name word.now) word.now }
+    ensures { option_map (λ name. name.now) result ≡ where_so (words.is_name word.now) word.now }
 {
     if !is_name(word) {
         return None;
@@ -64,7 +61,7 @@ pub(crate) fn name(word: &[u8]) -> Option<&str>
     }
 }
 
-/// A name with more behind it.
+/// A name with more after it.
 #[tactic(auto, unfolding(crate::specs::Line::name_at))]
 pub(crate) fn name_and_rest(text: &[u8]) -> Option<(&str, &[u8])>
     ensures { option_map (λ found. (found.0.now, found.1.now)) result ≡ forms.name_at text.now }
@@ -84,7 +81,7 @@ pub(crate) fn is_word(text: &[u8]) -> bool
 /// The text of a word: a file, a URL, a port name or a host's name.
 #[tactic(auto, using(crate::proofs::WordLemmas::words_are_utf8))]
 pub(crate) fn word_text(word: &[u8]) -> Option<&str>
-    ensures { option_map (λ text. text.now) result ≡ forms.where_so (words.is_word word.now) word.now }
+    ensures { option_map (λ text. text.now) result ≡ where_so (words.is_word word.now) word.now }
 {
     if !is_word(word) {
         return None;
@@ -95,7 +92,7 @@ pub(crate) fn word_text(word: &[u8]) -> Option<&str>
     }
 }
 
-/// The part of a file's name behind the last `/`, which is the whole where there is none.
+/// The part of a file's name after the last `/`, which is the whole where there is none.
 pub fn file_name(file: &str) -> &str
     ensures { result.now ≡ words.file_name file.now }
 {
@@ -107,9 +104,9 @@ pub fn file_name(file: &str) -> &str
 }
 
 /// The path that a word is.
-#[tactic(auto, using(crate::proofs::WordLemmas::paths_are_utf8))]
+#[tactic(auto, using(wx_context::proofs::PathLemmas::paths_are_utf8))]
 pub(crate) fn path(word: &[u8]) -> Option<&str>
-    ensures { option_map (λ path. path.now) result ≡ forms.where_so (texts.is_page_path word.now) word.now }
+    ensures { option_map (λ path. path.now) result ≡ where_so (texts.is_page_path word.now) word.now }
 {
     if !is_page_path(word) {
         return None;

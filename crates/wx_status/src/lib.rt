@@ -5,8 +5,6 @@ mod lines;
 mod manifests;
 mod status;
 mod tell;
-#[cfg(test)]
-mod tests;
 
 pub use lines::{input_line, read_fault_line, refusal_line};
 pub use manifests::manifest_line;

@@ -5,8 +5,6 @@ mod operands;
 mod plain;
 mod readers;
 mod run;
-#[cfg(test)]
-mod tests;
 
 pub use plain::{PlainCommand, plain_command};
 pub use run::scene_named;

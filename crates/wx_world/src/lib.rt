@@ -11,6 +11,3 @@ pub use faults::{FileKind, FileRefusal, WorldFault};
 pub use laws::one_world;
 pub use names::name_at;
 pub use reading::read_world;
-
-#[cfg(test)]
-mod tests;

@@ -7,12 +7,13 @@ use Rattle.wx_broker.proofs.broker.Broker.host_ended.Goals as goal
 pub settle_work-requires : goal.settle_work-requires
 settle_work-requires c =
     let i = c.self.inside in
-    rw (c.work_of-work.ensures, c.entries.ensures)
+    rw (c.work_of-work.ensures, c.entries.ensures, c.reserve.ensures.same)
     (request_within (length i.ports) (length i.requests) _ (work_within_tables (reverse i.journal.entries) i.ports i.requests c.args.h c.self.invariant.channels c.self.invariant.requests))
 
-pub invariant_of-self : goal.invariant_of-self
-invariant_of-self c =
+pub invariant_of-self-2 : goal.invariant_of-self-2
+invariant_of-self-2 c =
     let i = c.self.inside in
-    kept_ended i.world i.journal.entries c.push.new.self.entries c.args.h c.args.reason c.host_ended-answer.result i.ports c.close_work.new.ports i.requests c.settle_work.new.requests c.self.invariant
-    (record { may = may_end (reverse i.journal.entries) c.args.h c.args.reason (rw (← c.self.view_is) at c.requires); answered = rw c.entries-2.ensures at c.host_ended-answer.ensures })
-    c.in-Ok.ensures.ok (rw (c.work_of-work.ensures, c.entries.ensures) at c.close_work.ensures) (rw (c.work_of-work.ensures, c.entries.ensures) at c.settle_work.ensures)
+    kept_ended i.world i.journal.entries c.push.new.journal.entries c.args.h c.args.reason c.host_ended-answer.result i.ports c.close_work.new.ports i.requests c.settle_work.new.requests c.self.invariant
+    (record { may = may_end (reverse i.journal.entries) c.args.h c.args.reason (rw (← c.self.view_is) at c.requires); answered = rw (c.entries-2.ensures, c.reserve.ensures.same) at (c.host_ended-answer.ensures c.args.reason) })
+    (rw c.reserve.ensures.same at c.push.ensures.entries)
+    (rw (c.work_of-work.ensures, c.entries.ensures, c.reserve.ensures.same) at c.close_work.ensures) (rw (c.work_of-work.ensures, c.entries.ensures, c.reserve.ensures.same) at c.settle_work.ensures)

@@ -1,0 +1,65 @@
+//! The broker as a library: two pages of one extension talk to each other, without a scene.
+#![tactic(auto)]
+
+ghost use Rattle.std.specs.Prelude.{◌≡◌, codes, IfSome};
+
+use std::alloc::Global;
+use std::io::{self, Write};
+use wx_broker::Broker;
+use wx_context::{Context, Listens, PagePath, Target};
+use wx_external::World;
+use wx_id::{ExtensionId, Utf8Text};
+use wx_journal::Journal;
+use wx_machine::{Answer, JsonText};
+
+const CONNECTIONS: Listens = Listens {
+    connect: true,
+    message: false,
+    external_connect: false,
+    external_message: false,
+};
+
+/// A page of the extension with the id of thirty-two letters `a`; nothing where memory was refused.
+fn page(alloc: Global, path: &str) -> Option<Context>
+    ensures { IfSome result (λ page. page ≡ Context.Page (codes "aaaaaaaaaaaaaaaaaaaaaaaaaaaaaaaa") path.now) }
+{
+    let ext = ExtensionId::read(b"aaaaaaaaaaaaaaaaaaaaaaaaaaaaaaaa").ok()?;
+    let path = PagePath::read(alloc, path).ok()?;
+    Some(Context::Page { ext, path })
+}
+
+/// The popup connects to the hub and posts a text; what the hub takes, and the journal. Nothing where memory was refused.
+fn talk(alloc: Global, text: JsonText) -> Option<(JsonText, Journal)>
+    ensures { IfSome result (λ told. told.0 ≡ text) }
+{
+    let mut broker = Broker::new(alloc, World::new(alloc));
+    let hub = broker.enter(page(alloc, "/hub")?).ok()?;
+    let popup = broker.enter(page(alloc, "/popup")?).ok()?;
+    broker.listen(hub, CONNECTIONS).ok()?;
+    let name = Utf8Text::new(alloc, "").ok()?;
+    let Answer::Channel(channel) = broker.connect(popup, Target::Own, name).ok()? else {
+        return None;
+    };
+    broker.post(popup, channel, text).ok()?;
+    broker.take(hub).ok()?;
+    let Answer::Event(event) = broker.take(hub).ok()? else {
+        return None;
+    };
+    let taken = broker.journal().text_of(event.entry)?.try_clone().ok()?;
+    Some((taken, broker.into_journal()))
+}
+
+fn main(rt: HostRuntime) -> io::Result<()> {
+    let alloc = rt.alloc();
+    let text = JsonText::new(Vec::from_slice(alloc, b"{\"from\":\"popup\"}")?);
+    let Some((taken, journal)) = text.ok().and_then(|text| talk(alloc, text)) else {
+        return eprintln!(rt; "no memory");
+    };
+    let mut out = rt.stdout();
+    out.write_all(taken.bytes())?;
+    out.write_all(b"\n")?;
+    match journal.print(alloc) {
+        Ok(text) => out.write_all(&text),
+        Err(_) => eprintln!(rt; "no memory"),
+    }
+}

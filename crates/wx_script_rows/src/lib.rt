@@ -1,0 +1,27 @@
+//! The tests of scenes and their scripts, by public calls.
+#![tactic(auto)]
+
+#[cfg(test)]
+mod faults;
+#[cfg(test)]
+mod scenes;
+
+#[cfg(test)]
+use std::alloc::{AllocError, Global};
+
+/// The head line, an extension, and so many of its pages.
+#[cfg(test)]
+fn pages(alloc: Global, count: u64) -> Result<String, AllocError> {
+    let mut text = String::from_str(
+        alloc,
+        "wx scene 1 chrome\nextension x aaaaaaaaaaaaaaaaaaaaaaaaaaaaaaaa\n",
+    )?;
+    for i in 0..count {
+        text.push_str(&format!(in alloc; "page p{i} x /p\n")?)?;
+    }
+    Ok(text)
+}
+
+/// Is compiled where values of the type may cross threads.
+#[cfg(test)]
+fn crosses_threads<T: Send + Sync>() {}
