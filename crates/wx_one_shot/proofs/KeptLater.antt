@@ -1,20 +1,21 @@
 -- What a call on the channels is to the requests that are kept as them.
-use Rattle.std.proofs.Common.{◌≡◌, ℕ, ◌<◌, List, [], ◌∷◌, length, filter, map, set, refl, ap, sym, ◌∙◌, Bool, true, false, not, cond, is_some, rules}
+use Rattle.std.proofs.Common.{◌≡◌, ℕ, ◌<◌, List, [], ◌∷◌, ◌++◌, suc, zero, length, filter, map, set, refl, ap, sym, ◌∙◌, Bool, true, false, not, cond, is_some, rules, arith, subst}
 use Rattle.std.specs.Prelude.{Option, Some, None, slice_get, IfSome, ◌||◌, ◌&&◌, ◌==◌, if◌then◌else◌}
 use Rattle.std.specs.Option.{option_map}
 use Rattle.std.proofs.lemmas.Option.{slice_get-map}
-use Rattle.std.proofs.lemmas.List.{map-set}
+use Rattle.std.proofs.lemmas.List.{length-map, map-append, map-set}
 use Rattle.std.proofs.lemmas.Bool.{false≢true, true≢false}
 use Rattle.wx_id.specs.declared.numbers.ContextNo.{ContextNo}
 use Rattle.wx_id.specs.declared.events.End.{End}
 use Rattle.wx_id.specs.declared.events.End.TheVariants.{Opener, Receiver, Neither}
 use Rattle.wx_id.specs.Contexts.{same_context, is_among, is_other}
 use Rattle.wx_id.proofs.ContextLemmas.{same_context_is}
-use Rattle.wx_port.specs.Port as port
-use Rattle.wx_port.specs.Port.{Port, IsSound, closed, end_of, is_end, is_live_end, is_open_port, live_of, with_live}
+use Rattle.wx_id.proofs.ListLemmas.{set_here}
+use Rattle.wx_port.specs.Port as ports_spec
+use Rattle.wx_port.specs.Port.{Port, IsSound, closed, opened, end_of, is_end, is_live_end, is_open_port, live_of, with_live}
 use Rattle.wx_one_shot.specs.declared.requests.Standing.{Standing}
 use Rattle.wx_one_shot.specs.declared.requests.Standing.TheVariants.{Open, Late, Stranger}
-use Rattle.wx_one_shot.specs.Requests.{Request, settled, without, left_by, is_settled_at, is_unsettled_at, standing_at, concerns_at}
+use Rattle.wx_one_shot.specs.Requests.{Request, asked, settled, still_open_at, without, left_by, is_settled_at, is_unsettled_at, standing_at, concerns_at}
 use Rattle.wx_one_shot.specs.Kept.{request_of, requests_of}
 
 -- the request of a number
@@ -96,10 +97,10 @@ open_end p c sound standing = by (is_among p.receivers c) refl p.is_open refl (i
     by true among true e false f = absurd (late_not_open (rw (among, e, f) at standing))
 
 -- it drops its end
-pub without_is : (ports : List Port) (k : ℕ) (c : ContextNo) → IfSome (slice_get ports k) IsSound → standing_at (slice_get (requests_of ports) k) c ≡ Open → IfSome (slice_get ports k) (λ p. request_of (port.without c p) ≡ without c (request_of p))
+pub without_is : (ports : List Port) (k : ℕ) (c : ContextNo) → IfSome (slice_get ports k) IsSound → standing_at (slice_get (requests_of ports) k) c ≡ Open → IfSome (slice_get ports k) (λ p. request_of (ports_spec.without c p) ≡ without c (request_of p))
 without_is ports k c sound standing = by (slice_get ports k) sound (rw (request_at ports k) at standing)
   where
-    by : (o : Option Port) → IfSome o IsSound → standing_at (option_map request_of o) c ≡ Open → IfSome o (λ p. request_of (port.without c p) ≡ without c (request_of p))
+    by : (o : Option Port) → IfSome o IsSound → standing_at (option_map request_of o) c ≡ Open → IfSome o (λ p. request_of (ports_spec.without c p) ≡ without c (request_of p))
     by None sound standing = tt
     by (Some p) sound standing =
         let end = open_end p c sound standing in
@@ -134,15 +135,60 @@ standing_is ports k c live sound is shut = rw (request_at ports k) (by (slice_ge
         among false e false f = rw (e, f) refl
 
 -- all channels are left, so all requests are
-pub left_is : (c : ContextNo) (ports : List Port) → requests_of (map (port.left_by c) ports) ≡ map (left_by c) (requests_of ports)
+pub left_is : (c : ContextNo) (ports : List Port) → requests_of (map (ports_spec.left_by c) ports) ≡ map (left_by c) (requests_of ports)
 left_is c [] = refl
 left_is c (p ∷ ports) = rw (left_is c ports, one) refl
   where
-    one : request_of (port.left_by c p) ≡ left_by c (request_of p)
+    one : request_of (ports_spec.left_by c p) ≡ left_by c (request_of p)
     one = by p.is_open refl (same_context p.opener c) refl (is_among p.receivers c) refl
       where
-        by : (b : Bool) → p.is_open ≡ b → (s : Bool) → same_context p.opener c ≡ s → (r : Bool) → is_among p.receivers c ≡ r → request_of (port.left_by c p) ≡ left_by c (request_of p)
+        by : (b : Bool) → p.is_open ≡ b → (s : Bool) → same_context p.opener c ≡ s → (r : Bool) → is_among p.receivers c ≡ r → request_of (ports_spec.left_by c p) ≡ left_by c (request_of p)
         by false e s f r g = rw e refl
         by true e true f r g = rw (e, f) refl
         by true e false f true g = rw (e, f, g) (live_is p (filter (is_other c) p.live) e)
         by true e false f false g = rw (e, f, g) (rw e refl)
+
+-- there are as many
+pub count_is : (ports : List Port) → length (requests_of ports) ≡ length ports
+count_is ports = length-map ports request_of
+
+-- a channel that is opened is a request that is asked
+pub asked_is : (ports ports' : List Port) (asker : ContextNo) (receivers : List ContextNo) → ports' ≡ ports ++ opened asker receivers ∷ [] → requests_of ports' ≡ requests_of ports ++ asked asker receivers ∷ []
+asked_is ports ports' asker receivers grown = ap requests_of grown ∙ map-append request_of ports (opened asker receivers ∷ [])
+
+-- its opener is the asker
+pub asker_is : (ports : List Port) (k : ℕ) (c : ContextNo) → IfSome (slice_get ports k) (λ port. c ≡ port.opener) → IfSome (slice_get (requests_of ports) k) (λ request. c ≡ request.asker)
+asker_is ports k c is = rw (request_at ports k) (by (slice_get ports k) is)
+  where
+    by : (o : Option Port) → IfSome o (λ port. c ≡ port.opener) → IfSome (option_map request_of o) (λ request. c ≡ request.asker)
+    by None is = tt
+    by (Some port) is = is
+
+-- one that has been given out is there
+pub within_there : (ports : List Port) (k : ℕ) → k < length (requests_of ports) → is_some (slice_get ports k) ≡ true
+within_there ports k within = there ports k (subst (λ n. k < n) (count_is ports) within)
+  where
+    there : (ports : List Port) (k : ℕ) → k < length ports → is_some (slice_get ports k) ≡ true
+    there [] k h = absurd (omega (arith, h))
+    there (port ∷ ports) zero h = refl
+    there (port ∷ ports) (suc k) h = there ports k (omega (arith, h))
+
+-- its live receivers may still reply
+pub still_open_is : (ports : List Port) (k : ℕ) → still_open_at (slice_get (requests_of ports) k) ≡ live_of (slice_get ports k)
+still_open_is ports k = rw (request_at ports k) (by (slice_get ports k))
+  where
+    by : (o : Option Port) → still_open_at (option_map request_of o) ≡ live_of o
+    by None = refl
+    by (Some port) = refl
+
+live_some : (o : Option Port) (c : ContextNo) → is_live_end o c ≡ true → is_some o ≡ true
+live_some None c h = absurd (false≢true h)
+live_some (Some port) c h = refl
+
+-- a channel that a live end dropped is there still
+pub still_there : (ports ports' : List Port) (k : ℕ) (c : ContextNo) (change : Port → Port) → is_live_end (slice_get ports k) c ≡ true → IfSome (slice_get ports k) (λ port. ports' ≡ set ports k (change port)) → is_some (slice_get ports' k) ≡ true
+still_there ports ports' k c change live made = by (slice_get ports k) refl (live_some (slice_get ports k) c live) made
+  where
+    by : (o : Option Port) → slice_get ports k ≡ o → is_some o ≡ true → IfSome o (λ port. ports' ≡ set ports k (change port)) → is_some (slice_get ports' k) ≡ true
+    by None at there made = absurd (false≢true there)
+    by (Some port) at there made = ap (λ l. is_some (slice_get l k)) made ∙ ap is_some (set_here ports k (change port) port at)

@@ -2,7 +2,8 @@
 ghost use Rattle.std.specs.Prelude.{◌≡◌, ◌≤◌, ◌<◌, ℕ, [], ◌∷◌, ◌++◌, length, map, false, IsTrue, IfSome, IfOk, IfErr, OnOk, OnErr, Some, slice_get, slice_set};
 ghost use Rattle.std.specs.Option.{IfNone};
 ghost use Rattle.wx_id.specs.Contexts.{is_among, are_distinct};
-ghost use Rattle.wx_one_shot.specs.Requests.{asked, settled, without, left_by, is_settled_at, is_unsettled_at, standing_at, concerns_at};
+ghost use Rattle.wx_one_shot.specs.Requests.{asked, settled, without, left_by, is_settled_at, is_unsettled_at, standing_at, still_open_at, concerns_at};
+ghost use Rattle.wx_one_shot.specs.Kept.{requests_of};
 ghost use Rattle.wx_one_shot.specs.declared.requests.Standing.TheVariants.{Open};
 
 use std::alloc::Global;
@@ -19,6 +20,45 @@ pub enum Standing {
     Late,
     /// The request was not sent to it, or was never made.
     Stranger,
+}
+
+/// What c is to request r, which is kept as this channel.
+#[tactic(auto, using(crate::proofs::KeptLater::standing_is))]
+fn standing_in(ports: &Ports, r: ChannelNo, c: ContextNo) -> Standing
+    ensures { result ≡ standing_at (slice_get (requests_of ports.now) r.0) c }
+{
+    let live = ports.live(r);
+    match ports.end(r, c) {
+        End::Receiver => {
+            if is_among(live, c) {
+                Standing::Open
+            } else {
+                Standing::Late
+            }
+        }
+        _ => Standing::Stranger,
+    }
+}
+
+/// Settles request r, which is kept as this channel.
+fn settle_in(ports: &mut Ports, r: ChannelNo)
+    requires { IsTrue (is_unsettled_at (slice_get (requests_of ports.old) r.0)) }
+    ensures { IfSome (slice_get (requests_of ports.old) r.0) (λ request. requests_of ports.new
+        ≡ slice_set (requests_of ports.old) r.0 (settled request)) }
+{
+    ports.close(r);
+}
+
+/// Receiver c, which is open, will not reply to request r, which is kept as this channel. Answers whether that settled it.
+fn close_in(ports: &mut Ports, r: ChannelNo, c: ContextNo) -> bool
+    requires { standing_at (slice_get (requests_of ports.old) r.0) c ≡ Open }
+    ensures requests { IfSome (slice_get (requests_of ports.old) r.0) (λ request. requests_of ports.new
+        ≡ slice_set (requests_of ports.old) r.0 (without c request)) }
+    ensures settled { result ≡ is_settled_at (slice_get (requests_of ports.new) r.0) }
+{
+    // The asker is none of the receivers, so c drops a receiver's end.
+    let _ = ports.live(r);
+    ports.drop_end(r, c)
 }
 
 /// The one-shot requests, seen as a list by number: each with its asker, its receivers, those that may still reply, and
@@ -50,6 +90,7 @@ impl Requests {
 
     /// Makes a request to distinct receivers other than the asker, or to none, as one to a native host. It gets the next
     /// number. Refused for want of memory alone: then nothing is changed, and the receivers come back.
+    #[tactic(auto, using(crate::proofs::KeptLater::asked_is, crate::proofs::KeptLater::count_is))]
     pub fn ask(
         &mut self,
         asker: ContextNo,
@@ -69,6 +110,7 @@ impl Requests {
     }
 
     /// Who made request r.
+    #[tactic(auto, using(crate::proofs::KeptLater::asker_is, crate::proofs::KeptLater::count_is))]
     pub fn asker(&self, r: RequestNo) -> ContextNo
         requires { r.0 < length self.now }
         ensures { IfSome (slice_get self.now r.0) (λ request. result ≡ request.asker) }
@@ -77,6 +119,7 @@ impl Requests {
     }
 
     /// Whether request r is settled.
+    #[tactic(auto, using(crate::proofs::KeptLater::settled_is, crate::proofs::KeptLater::within_there, crate::proofs::KeptLater::count_is))]
     pub fn is_settled(&self, r: RequestNo) -> bool
         requires { r.0 < length self.now }
         ensures { result ≡ is_settled_at (slice_get self.now r.0) }
@@ -88,17 +131,15 @@ impl Requests {
     pub fn standing(&self, r: RequestNo, c: ContextNo) -> Standing
         ensures { result ≡ standing_at (slice_get self.now r.0) c }
     {
-        let live = self.ports.live(ChannelNo(r.0));
-        match self.ports.end(ChannelNo(r.0), c) {
-            End::Receiver => {
-                if is_among(live, c) {
-                    Standing::Open
-                } else {
-                    Standing::Late
-                }
-            }
-            _ => Standing::Stranger,
-        }
+        standing_in(&self.ports, ChannelNo(r.0), c)
+    }
+
+    /// The receivers that may still reply to request r: none where it is settled or has not been given out.
+    #[tactic(auto, using(crate::proofs::KeptLater::still_open_is))]
+    pub fn still_open(&self, r: RequestNo) -> &[ContextNo]
+        ensures { result.now ≡ still_open_at (slice_get self.now r.0) }
+    {
+        self.ports.live(ChannelNo(r.0))
     }
 
     /// Settles request r, which is not settled. Takes no memory.
@@ -106,7 +147,7 @@ impl Requests {
         requires { IsTrue (is_unsettled_at (slice_get self.old r.0)) }
         ensures { IfSome (slice_get self.old r.0) (λ request. self.new ≡ slice_set self.old r.0 (settled request)) }
     {
-        self.ports.close(ChannelNo(r.0));
+        settle_in(&mut self.ports, ChannelNo(r.0));
     }
 
     // Receiver c, which is open, will not reply to request r. Answers whether that settled it.
@@ -116,9 +157,7 @@ impl Requests {
             (λ request. self.new ≡ slice_set self.old r.0 (without c request)) }
         ensures settled { result ≡ is_settled_at (slice_get self.new r.0) }
     {
-        // The asker is none of the receivers, so c drops a receiver's end.
-        let _ = self.ports.live(ChannelNo(r.0));
-        self.ports.drop_end(ChannelNo(r.0), c)
+        close_in(&mut self.ports, ChannelNo(r.0), c)
     }
 
     /// Context c, whose standing is open, declines request r. Answers whether that settled it: then no receiver is open.
@@ -145,6 +184,7 @@ impl Requests {
 
     /// Context c leaves: each unsettled request that it asked is settled, and those that were sent to it are left to
     /// their other receivers. Takes no memory.
+    #[tactic(auto, using(crate::proofs::KeptLater::left_is))]
     pub fn leave(&mut self, c: ContextNo)
         ensures { self.new ≡ map (left_by c) self.old }
     {
@@ -152,6 +192,7 @@ impl Requests {
     }
 
     /// How many requests were made.
+    #[tactic(auto, using(crate::proofs::KeptLater::count_is))]
     pub fn count(&self) -> u64
         ensures { result ≡ length self.now }
     {
@@ -161,6 +202,7 @@ impl Requests {
     /// The least request from `from` on that is not settled and that context c asked or may still reply to; none where
     /// there is none. A search by halves among the
     /// requests of c, and then as many steps as it finds settled.
+    #[tactic(auto, using(crate::proofs::KeptLater::concerns_is))]
     pub fn next_of(&self, c: ContextNo, from: RequestNo) -> Option<RequestNo>
         ensures found { IfSome result (λ r. (from.0 ≤ r.0) × IsTrue (concerns_at (slice_get self.now r.0) c)) }
         ensures least { IfSome result (λ r. (k : ℕ) → k < r.0 → from.0 ≤ k

@@ -1,11 +1,11 @@
 -- The leave of a context, channel by channel.
-use Rattle.std.proofs.Common.{◌≡◌, ◌≢◌, ℕ, ◌+◌, ◌<◌, List, [], ◌∷◌, ◌++◌, length, map, filter, set, get_or, take, refl, ap, sym, ◌∙◌, Bool, true, false, cond}
+use Rattle.std.proofs.Common.{◌≡◌, ◌≢◌, ℕ, ◌+◌, ◌<◌, ◌≤◌, List, [], ◌∷◌, ◌++◌, length, map, filter, set, get_or, take, refl, ap, sym, ◌∙◌, Bool, true, false, cond, subst}
 use Rattle.std.specs.Prelude.{Option, Some, None, slice_get, IfSome, not, ◌||◌, ◌&&◌, ◌==◌, if◌then◌else◌}
 use Rattle.std.specs.Option.{option_map}
 use Rattle.std.proofs.lemmas.Bool.{false≢true, eqb-true}
 use Rattle.std.proofs.lemmas.Iterator.Adapters.{option_map_id}
 use Rattle.std.proofs.lemmas.Option.{slice_get-map}
-use Rattle.std.proofs.lemmas.List.{take_more}
+use Rattle.std.proofs.lemmas.List.{take_all, take_more}
 use Rattle.wx_id.specs.declared.numbers.ContextNo.{ContextNo}
 use Rattle.wx_id.specs.Contexts.{same_context, is_among, is_other}
 use Rattle.wx_id.proofs.ByContextLemmas.{other_is}
@@ -24,28 +24,42 @@ left_none c ports j = sym (option_map_id (slice_get ports j))
 
 filter_twice : (c : ContextNo) (cs : List ContextNo) → filter (is_other c) (filter (is_other c) cs) ≡ filter (is_other c) cs
 filter_twice c [] = refl
-filter_twice c (x ∷ cs) = by (is_other c x) refl
+filter_twice c (x ∷ cs) = by (is_other c x) refl (filter_twice c cs)
   where
-    by : (b : Bool) → is_other c x ≡ b → filter (is_other c) (filter (is_other c) (x ∷ cs)) ≡ filter (is_other c) (x ∷ cs)
-    by true e = rw e (rw e (ap (λ l. x ∷ l) (filter_twice c cs)))
-    by false e = rw e (filter_twice c cs)
+    by : (b : Bool) → is_other c x ≡ b → filter (is_other c) (filter (is_other c) cs) ≡ filter (is_other c) cs → filter (is_other c) (filter (is_other c) (x ∷ cs)) ≡ filter (is_other c) (x ∷ cs)
+    by true e rest = rw e (rw e (ap (λ l. x ∷ l) rest))
+    by false e rest = rw e rest
+
+-- who leaves an open channel of which it is an end drops it, and any other stays
+left_as : (c : ContextNo) (port : Port) (b : Bool) → (port.is_open && is_end port c) ≡ b → left_by c port ≡ (if b then without c port else port)
+left_as c port b e = ap (λ t. if t then without c port else port) e
+
+without_as : (c : ContextNo) (port : Port) (s : Bool) → same_context port.opener c ≡ s → without c port ≡ (if s then closed port else with_live port (filter (is_other c) port.live))
+without_as c port s e = ap (λ t. if t then closed port else with_live port (filter (is_other c) port.live)) e
+
+-- a channel without c among its live receivers is left as it is
+none_left : (c : ContextNo) (port : Port) (cs : List ContextNo) → filter (is_other c) cs ≡ cs → same_context port.opener c ≡ false → left_by c (with_live port cs) ≡ with_live port cs
+none_left c port [] same other = refl
+none_left c port (x ∷ cs) same other = by (q.is_open && is_end q c) refl
+  where
+    q : Port
+    q = record { opener = port.opener; receivers = port.receivers; live = x ∷ cs; is_open = port.is_open }
+
+    by : (b : Bool) → (q.is_open && is_end q c) ≡ b → left_by c q ≡ q
+    by false e = left_as c q false e
+    by true e = left_as c q true e ∙ without_as c q false other ∙ ap (with_live q) same
 
 -- who has left a channel leaves it no further
-left_twice : (c : ContextNo) (port : Port) → left_by c (left_by c port) ≡ left_by c port
-left_twice c port = by port.is_open refl (is_end port c) refl
+pub left_twice : (c : ContextNo) (port : Port) → left_by c (left_by c port) ≡ left_by c port
+left_twice c port = by (port.is_open && is_end port c) refl
   where
-    live : (cs : List ContextNo) → filter (is_other c) cs ≡ cs → same_context port.opener c ≡ false → port.is_open ≡ true → is_end port c ≡ true → left_by c (with_live port cs) ≡ with_live port cs
-    live [] same other open_now end_is = refl
-    live (x ∷ cs) same other open_now end_is = rw (open_now, end_is, other) (rw same refl)
+    ended : (s : Bool) → same_context port.opener c ≡ s → left_by c (without c port) ≡ without c port
+    ended true e = let w = without_as c port true e in ap (left_by c) w ∙ sym w
+    ended false e = let w = without_as c port false e in ap (left_by c) w ∙ none_left c port (filter (is_other c) port.live) (filter_twice c port.live) e ∙ sym w
 
-    ended : (s : Bool) → same_context port.opener c ≡ s → port.is_open ≡ true → is_end port c ≡ true → left_by c (without c port) ≡ without c port
-    ended true e open_now end_is = rw e refl
-    ended false e open_now end_is = rw e (live (filter (is_other c) port.live) (filter_twice c port.live) e open_now end_is)
-
-    by : (b : Bool) → port.is_open ≡ b → (t : Bool) → is_end port c ≡ t → left_by c (left_by c port) ≡ left_by c port
-    by false e t h = rw e (rw e refl)
-    by true e false h = rw (e, h) (rw (e, h) refl)
-    by true e true h = rw (e, h) (ended (same_context port.opener c) refl e h)
+    by : (b : Bool) → (port.is_open && is_end port c) ≡ b → left_by c (left_by c port) ≡ left_by c port
+    by false e = ap (left_by c) (left_as c port false e)
+    by true e = let l = left_as c port true e in ap (left_by c) l ∙ ended (same_context port.opener c) refl ∙ sym l
 
 -- one more channel is left
 pub left_more : (c : ContextNo) (ns : List ℕ) (k : ℕ) (start ports ports' : List Port) → LeftAt c ns start ports → ((j : ℕ) → slice_get ports' j ≡ option_map (λ port. cond (k == j) (left_by c port) port) (slice_get ports j)) → LeftAt c (ns ++ k ∷ []) start ports'
@@ -84,6 +98,12 @@ left_all c own start ports of left = read_alike ports (map (left_by c) start) (�
     by : (o : Option Port) → option_map (λ port. cond (is_end_at o c) (left_by c port) port) o ≡ option_map (left_by c) o
     by None = refl
     by (Some port) = ap (λ p. Some p) (stays port (is_end port c) refl)
+
+pub left_step : (c : ContextNo) (own : List ℕ) (i : ℕ) (start ports ports' : List Port) → i < length own → LeftAt c (take i own) start ports → ((j : ℕ) → slice_get ports' j ≡ option_map (λ port. cond (get_or own i 0 == j) (left_by c port) port) (slice_get ports j)) → LeftAt c (take (i + 1) own) start ports'
+left_step c own i start ports ports' within left changed = rw (take_more own i 0 within) (left_more c (take i own) (get_or own i 0) start ports ports' left changed)
+
+pub left_end : (c : ContextNo) (own : List ℕ) (i : ℕ) (start ports : List Port) → length own ≤ i → AreOf start c own → LeftAt c (take i own) start ports → ports ≡ map (left_by c) start
+left_end c own i start ports past of left = left_all c own start ports of (subst (λ ns. LeftAt c ns start ports) (take_all i own past) left)
 
 -- one channel is left
 pub left_here : (c : ContextNo) (k : ℕ) (ports ports' : List Port) → IfSome (slice_get ports k) (λ port. ports' ≡ set ports k (without c port)) → is_open_port (slice_get ports k) ≡ true → is_end_at (slice_get ports k) c ≡ true → (j : ℕ) → slice_get ports' j ≡ option_map (λ port. cond (k == j) (left_by c port) port) (slice_get ports j)

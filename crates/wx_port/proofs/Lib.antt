@@ -5,3 +5,4 @@ pub mod TableLater
 pub mod SoundLater
 pub mod LeavingLater
 pub mod SearchLater
+pub mod KeptLater

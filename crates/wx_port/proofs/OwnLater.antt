@@ -3,6 +3,7 @@ use Rattle.std.proofs.Common.{◌≡◌, ◌≢◌, ◌⊎◌, ⊎_elim, ℕ, su
 use Rattle.std.specs.Prelude.{Option, Some, None, slice_get, IfSome, ◌||◌, ◌&&◌, ◌==◌, if◌then◌else◌}
 use Rattle.std.specs.Option.{option_map, IsSomeAnd}
 use Rattle.std.proofs.lemmas.Bool.{cases_eq, false≢true, true≢false, eqb-true, eq-eqb}
+use Rattle.std.proofs.Math.Dec.{eqb-suc-suc, eqb-suc-zero, eqb-zero-suc}
 use Rattle.std.proofs.lemmas.Option.{none-some, same_Some, slice_get_within, slice_get-map}
 use Rattle.std.proofs.lemmas.List.{append-nil, take_more}
 use Rattle.wx_id.specs.declared.numbers.ContextNo.{ContextNo}
@@ -120,13 +121,13 @@ own_opened ports own one two opener receivers n alone are opener_room room numbe
       where
         at : (xs : List Port) (k : ℕ) → is_end_at (slice_get (xs ++ port ∷ []) k) d ≡ (is_end_at (slice_get xs k) d || ((length xs == k) && is_end port d))
         at [] zero = refl
-        at [] (suc k) = refl
-        at (x ∷ xs) zero = rw (cut (is_end x d)) refl
+        at [] (suc k) = rw (eqb-zero-suc k) refl
+        at (x ∷ xs) zero = rw (eqb-suc-zero (length xs)) (cut (is_end x d))
           where
-            cut : (b : Bool) → (b || false) ≡ b
+            cut : (b : Bool) → b ≡ (b || false)
             cut true = refl
             cut false = refl
-        at (x ∷ xs) (suc k) = at xs k
+        at (x ∷ xs) (suc k) = rw (eqb-suc-suc (length xs) k) (at xs k)
 
     has_after : (ns : List ℕ) (b : Bool) (k : ℕ) → has_number (ns ++ cond b (n ∷ []) []) k ≡ (has_number ns k || ((n == k) && b))
     has_after ns true k = has_more ns n k ∙ ap (λ t. has_number ns k || t) (cut (n == k))

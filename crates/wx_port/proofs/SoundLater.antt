@@ -1,5 +1,5 @@
 -- Channels stay sound.
-use Rattle.std.proofs.Common.{◌≡◌, ◌≢◌, ◌⊎◌, ⊎_elim, ℕ, map, List, [], ◌∷◌, ◌++◌, length, filter, set, refl, ap, sym, ◌∙◌, Bool, true, false, is_some}
+use Rattle.std.proofs.Common.{◌≡◌, ◌≢◌, ◌⊎◌, ⊎_elim, ℕ, map, List, [], ◌∷◌, ◌++◌, length, filter, set, refl, ap, sym, ◌∙◌, Bool, true, false, is_some, subst}
 use Rattle.std.specs.Prelude.{Option, Some, None, IfSome, slice_get, ◌||◌, ◌&&◌, if◌then◌else◌}
 use Rattle.std.specs.Option.{option_map}
 use Rattle.std.proofs.lemmas.Option.{slice_get-map}
@@ -45,8 +45,8 @@ sound_without c port sound = by (same_context port.opener c) refl
     live (x ∷ cs) e = record {
       opener = sound.opener;
       receivers = sound.receivers;
-      live = rw (← e) (others_distinct c port.live sound.live);
-      within = λ d h. sound.within d (among_others c d port.live (rw e h));
+      live = subst (λ l. are_distinct l ≡ true) e (others_distinct c port.live sound.live);
+      within = λ d h. sound.within d (among_others c d port.live (subst (λ l. is_among l d ≡ true) (sym e) h));
       closed = λ gone. sym e ∙ ap (filter (is_other c)) (sound.closed gone);
     }
 

@@ -55,6 +55,6 @@ abbrev pub AreSound : List Port → Type 0
 AreSound ports = (k : ℕ) → IfSome (slice_get ports k) IsSound
 
 -- the channels are sound, and each context has the numbers of its own
-pub record IsKept (ports : List Port) (own : List NumbersState) : Type 0 where
+pub record IsKept (ports : List Port) (lists : List NumbersState) : Type 0 where
   pub sound : AreSound ports
-  pub own : AreOwn ports own
+  pub own : AreOwn ports lists

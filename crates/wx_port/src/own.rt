@@ -21,17 +21,20 @@ pub fn numbers_of(own: &[Numbers], c: ContextNo) -> &[u64]
 }
 
 /// Makes a list for each context up to c.
+#[tactic(auto, using(crate::proofs::OwnLater::still_self, crate::proofs::OwnLater::still_push, crate::proofs::OwnLater::still_then))]
 fn extend(own: &mut Vec<Numbers>, alloc: Global, c: ContextNo) -> Result<(), NoMemory>
     ensures still { AreStill own.old.items own.new.items }
     ensures ok { OnOk result (c.0 < length own.new.items) }
 {
     while own.len() <= c.0 as usize {
-        own.push(Numbers::new(alloc))?;
+        own.reserve(1)?;
+        own.push_reserved(Numbers::new(alloc));
     }
     Ok(())
 }
 
 /// Makes room for one more number of context c, which has a list.
+#[tactic(auto, using(crate::proofs::OwnLater::still_at, crate::proofs::OwnLater::room_at))]
 fn make_room_there(own: &mut Vec<Numbers>, c: ContextNo) -> Result<(), NoMemory>
     requires { c.0 < length own.old.items }
     ensures still { AreStill own.old.items own.new.items }
@@ -41,6 +44,7 @@ fn make_room_there(own: &mut Vec<Numbers>, c: ContextNo) -> Result<(), NoMemory>
 }
 
 /// Makes room for one more number of context c.
+#[tactic(auto, using(crate::proofs::OwnLater::still_then))]
 pub fn make_room_at(own: &mut Vec<Numbers>, alloc: Global, c: ContextNo) -> Result<(), NoMemory>
     ensures still { AreStill own.old.items own.new.items }
     ensures ok { OnOk result (0 < room_in (slice_get own.new.items c.0)) }

@@ -33,6 +33,7 @@ impl Model for Ports {
 }
 
 /// Makes room for one more number of each end of a channel.
+#[tactic(auto, using(crate::proofs::OwnLater::still_then, crate::proofs::OwnLater::room_still))]
 fn make_room(
     own: &mut Vec<Numbers>,
     alloc: Global,
@@ -109,6 +110,7 @@ fn next_from(table: &Table, own: &[u64], c: ContextNo, from: ChannelNo) -> Optio
 
 impl Ports {
     /// No channels.
+    #[tactic(auto, using(crate::proofs::KeptLater::kept_none))]
     pub fn new(alloc: Global) -> Ports
         ensures { result ≡ [] }
     {
@@ -121,6 +123,7 @@ impl Ports {
 
     /// Opens a channel, with the next number, from 0. Where memory is refused nothing changes, and the receivers come
     /// back.
+    #[tactic(auto, using(crate::proofs::KeptLater::kept_still))]
     pub fn open(
         &mut self,
         opener: ContextNo,
@@ -141,6 +144,7 @@ impl Ports {
 
     /// What c is to channel k, open or closed; `Neither` where k has not been given out. A search by halves among the
     /// channels of c.
+    #[tactic(auto, using(crate::proofs::SearchLater::end_own, crate::proofs::KeptLater::own_of))]
     pub fn end(&self, k: ChannelNo, c: ContextNo) -> End
         ensures { result ≡ spec.end_of (slice_get self.now k.0) c }
     {
@@ -180,6 +184,7 @@ impl Ports {
     }
 
     /// Closes channel k, which is open. Its ends stay. Takes no memory.
+    #[tactic(auto, using(crate::proofs::KeptLater::kept_closed))]
     pub fn close(&mut self, k: ChannelNo)
         requires { IsTrue (spec.is_open_port (slice_get self.old k.0)) }
         ensures { IfSome (slice_get self.old k.0) (λ port. self.new ≡ slice_set self.old k.0 (spec.closed port)) }
@@ -200,6 +205,7 @@ impl Ports {
 
     /// Context c leaves: it drops each open channel of which it is an end. Goes through its own channels; takes no
     /// memory.
+    #[tactic(auto, using(crate::proofs::KeptLater::own_of))]
     pub fn leave(&mut self, c: ContextNo)
         ensures { self.new ≡ map (spec.left_by c) self.old }
     {
@@ -215,6 +221,7 @@ impl Ports {
 
     /// The least open channel at or after `from` of which c is a live end. A search by halves among the channels of c,
     /// and then as many steps as it finds closed.
+    #[tactic(auto, using(crate::proofs::KeptLater::own_of))]
     pub fn next_of(&self, c: ContextNo, from: ChannelNo) -> Option<ChannelNo>
         ensures live { IfSome result (λ k. IsTrue (spec.is_live_end (slice_get self.now k.0) c)) }
         ensures from { IfSome result (λ k. from.0 ≤ k.0) }

@@ -5,3 +5,4 @@ pub mod LoopLater
 pub mod OpeningLater
 pub mod AskingLater
 pub mod TellingLater
+pub mod TakingLater

@@ -11,14 +11,14 @@ use Rattle.wx_id.specs.declared.numbers.ContextNo.{ContextNo}
 use Rattle.wx_id.specs.declared.events.Event.{Event}
 use Rattle.wx_port.specs.Port.{Port, IsSound, opened, live_of}
 use Rattle.wx_id.specs.Contexts.{same_context, is_among, are_distinct}
-use Rattle.wx_one_shot.specs.Requests.{Request}
-use Rattle.wx_mailbox.specs.Mailbox.{MailboxState, connected, owing, IsRoomier}
+use Rattle.wx_one_shot.specs.Requests.{Request, asked, still_open_at}
+use Rattle.wx_mailbox.specs.Mailbox.{MailboxState, told, connected, owing, IsRoomier}
 use Rattle.wx_id.specs.ByContext.{EachHas, Changed}
 use Rattle.wx_mailbox.specs.Mailboxes.{AreRoomier}
 use Rattle.wx_id.proofs.ListLemmas.{read_alike}
 use Rattle.wx_tables.specs.State.{owes, awaits, due, owed_in, AreOwed, queue_in, queues_in}
-use Rattle.wx_tables.specs.Ending.{heard, EachQueue}
-use Rattle.wx_tables.specs.Opening.{AreThere, begun, Begun, told_opening}
+use Rattle.wx_tables.specs.Ending.{heard, told_to, EachQueue}
+use Rattle.wx_tables.specs.Opening.{AreThere, begun, Begun}
 use Rattle.wx_tables.proofs.EndingLater.{still_has}
 
 mailbox_there : (o : Option MailboxState) → IsSome (option_map queue_in o) → IsSomeAnd o (λ b. 0 ≤ b.room)
@@ -80,10 +80,11 @@ last_live ports ports' port k at grown = ap (λ l. live_of (slice_get l k)) grow
     last [] = refl
     last (x ∷ xs) = last xs
 
-pub begun_by : (opener : ContextNo) (receivers : List ContextNo) (e : Event) (old mid new : List MailboxState) → is_among receivers opener ≡ false → Changed (connected e) receivers old mid → Changed owing (opener ∷ []) mid new → Begun opener receivers e old new
-begun_by opener receivers e old mid new apart first second d = second d ∙ rw (first d) (by (slice_get old d.0) (same_context opener d) (is_among receivers d) (λ h. ap (λ (n : ℕ). is_among receivers (record { 0 = n })) (sym (eqb-true opener.0 d.0 h)) ∙ apart))
+-- the receivers are changed, and then the opener keeps a place
+pub begun_by : (change : MailboxState → MailboxState) (opener : ContextNo) (receivers : List ContextNo) (old mid new : List MailboxState) → is_among receivers opener ≡ false → Changed change receivers old mid → Changed owing (opener ∷ []) mid new → Begun change opener receivers old new
+begun_by change opener receivers old mid new apart first second d = second d ∙ rw (first d) (by (slice_get old d.0) (same_context opener d) (is_among receivers d) (λ h. ap (λ (n : ℕ). is_among receivers (record { 0 = n })) (sym (eqb-true opener.0 d.0 h)) ∙ apart))
   where
-    by : (o : Option MailboxState) (s a : Bool) → (s ≡ true → a ≡ false) → option_map (λ b. cond (s || false) (owing b) b) (option_map (λ b. cond a (connected e b) b) o) ≡ option_map (begun s a e) o
+    by : (o : Option MailboxState) (s a : Bool) → (s ≡ true → a ≡ false) → option_map (λ b. cond (s || false) (owing b) b) (option_map (λ b. cond a (change b) b) o) ≡ option_map (begun change s a) o
     by None s a h = refl
     by (Some b) true true h = absurd (true≢false (h refl))
     by (Some b) true false h = refl
@@ -97,14 +98,14 @@ opener_not_told opener receivers apart d h = ap (λ (n : ℕ). is_among receiver
     one true h = refl
     one false h = h
 
-pub owed_begun : (ports ports' : List Port) (rows : List Request) (old new : List MailboxState) (opener : ContextNo) (receivers : List ContextNo) (e : Event) → AreOwed ports rows old → EachHas (λ b. 0 < b.room) (opener ∷ []) old → EachHas (λ b. 1 < b.room) receivers old → Begun opener receivers e old new → ports' ≡ ports ++ opened opener receivers ∷ [] → AreOwed ports' rows new
+pub owed_begun : (ports ports' : List Port) (rows : List Request) (old new : List MailboxState) (opener : ContextNo) (receivers : List ContextNo) (e : Event) → AreOwed ports rows old → EachHas (λ b. 0 < b.room) (opener ∷ []) old → EachHas (λ b. 1 < b.room) receivers old → Begun (connected e) opener receivers old new → ports' ≡ ports ++ opened opener receivers ∷ [] → AreOwed ports' rows new
 owed_begun ports ports' rows old new opener receivers e owed at_opener at_receivers told grown = rw grown (record {
   each = λ d.
       let sums : sum_by (owes d) (ports ++ opened opener receivers ∷ []) ≡ sum_by (owes d) ports + owes d (opened opener receivers) = sum_by_push (owes d) ports (opened opener receivers) in
       ap owed_in (told d) ∙ by d (slice_get old d.0) (same_context opener d) refl (is_among receivers d) refl (at_opener d) (at_receivers d) (sum_by (owes d) ports) (sum_by (owes d) (ports ++ opened opener receivers ∷ [])) (sum_by (awaits d) rows) (owed.each d) sums;
 })
   where
-    by : (d : ContextNo) (o : Option MailboxState) (s : Bool) → same_context opener d ≡ s → (a : Bool) → is_among receivers d ≡ a → ((same_context opener d || false) ≡ true → IsSomeAnd o (λ b. 0 < b.room)) → (is_among receivers d ≡ true → IsSomeAnd o (λ b. 1 < b.room)) → (n m r : ℕ) → owed_in o ≡ n + r → m ≡ n + cond {A = ℕ} (true && (same_context opener d || is_among receivers d)) 1 0 → owed_in (option_map (begun s a e) o) ≡ m + r
+    by : (d : ContextNo) (o : Option MailboxState) (s : Bool) → same_context opener d ≡ s → (a : Bool) → is_among receivers d ≡ a → ((same_context opener d || false) ≡ true → IsSomeAnd o (λ b. 0 < b.room)) → (is_among receivers d ≡ true → IsSomeAnd o (λ b. 1 < b.room)) → (n m r : ℕ) → owed_in o ≡ n + r → m ≡ n + cond {A = ℕ} (true && (same_context opener d || is_among receivers d)) 1 0 → owed_in (option_map (begun (connected e) s a) o) ≡ m + r
     by d None true is a among at_o at_r n m r h sums = absurd (at_o (rw is refl))
     by d None false is true among at_o at_r n m r h sums = absurd (at_r among)
     by d None false is false among at_o at_r n m r h sums = let s : m ≡ n + 0 = rw (is, among) at sums in omega (arith, h, s)
@@ -112,18 +113,42 @@ owed_begun ports ports' rows old new opener receivers e owed at_opener at_receiv
     by d (Some b) false is true among at_o at_r n m r h sums = let s : m ≡ n + 1 = rw (is, among) at sums in omega (arith, h, s)
     by d (Some b) false is false among at_o at_r n m r h sums = let s : m ≡ n + 0 = rw (is, among) at sums in omega (arith, h, s)
 
-pub queues_begun : (opener : ContextNo) (receivers : List ContextNo) (e : Event) (old new : List MailboxState) → is_among receivers opener ≡ false → Begun opener receivers e old new → EachQueue (told_opening receivers e) (queues_in old) (queues_in new)
-queues_begun opener receivers e old new apart told d =
-    slice_get-map queue_in new d.0 ∙ ap (option_map queue_in) (told d)
-    ∙ by (slice_get old d.0) (same_context opener d) (is_among receivers d) (λ h. ap (λ (n : ℕ). is_among receivers (record { 0 = n })) (sym (eqb-true opener.0 d.0 h)) ∙ apart)
-    ∙ ap (option_map (told_opening receivers e d)) (sym (slice_get-map queue_in old d.0))
+-- a request that is asked: the asker keeps a place for its outcome
+pub owed_asked : (ports : List Port) (rows rows' : List Request) (old new : List MailboxState) (asker : ContextNo) (receivers : List ContextNo) (e : Event) → AreOwed ports rows old → EachHas (λ b. 0 < b.room) (asker ∷ []) old → Begun (told e) asker receivers old new → rows' ≡ rows ++ asked asker receivers ∷ [] → AreOwed ports rows' new
+owed_asked ports rows rows' old new asker receivers e owed at_asker begun_so grown = rw grown (record {
+  each = λ d.
+      let sums : sum_by (awaits d) (rows ++ asked asker receivers ∷ []) ≡ sum_by (awaits d) rows + awaits d (asked asker receivers) = sum_by_push (awaits d) rows (asked asker receivers) in
+      ap owed_in (begun_so d) ∙ by d (slice_get old d.0) (same_context asker d) refl (is_among receivers d) (at_asker d) (sum_by (owes d) ports) (sum_by (awaits d) rows) (sum_by (awaits d) (rows ++ asked asker receivers ∷ [])) (owed.each d) sums;
+})
   where
-    by : (o : Option MailboxState) (s a : Bool) → (s ≡ true → a ≡ false) → option_map queue_in (option_map (begun s a e) o) ≡ option_map (λ queue. heard a e queue) (option_map queue_in o)
+    by : (d : ContextNo) (o : Option MailboxState) (s : Bool) → same_context asker d ≡ s → (a : Bool) → ((same_context asker d || false) ≡ true → IsSomeAnd o (λ b. 0 < b.room)) → (n r m : ℕ) → owed_in o ≡ n + r → m ≡ r + cond {A = ℕ} (same_context asker d) 1 0 → owed_in (option_map (begun (told e) s a) o) ≡ n + m
+    by d None true is a at n r m h sums = absurd (at (rw is refl))
+    by d None false is a at n r m h sums = let s : m ≡ r + 0 = rw is at sums in omega (arith, h, s)
+    by d (Some b) true is a at n r m h sums = let s : m ≡ r + 1 = rw is at sums in omega (arith, h, s)
+    by d (Some b) false is true at n r m h sums = let s : m ≡ r + 0 = rw is at sums in omega (arith, h, s)
+    by d (Some b) false is false at n r m h sums = let s : m ≡ r + 0 = rw is at sums in omega (arith, h, s)
+
+-- what waits once it is opened or asked
+pub queues_begun : (change : MailboxState → MailboxState) (opener : ContextNo) (receivers : List ContextNo) (e : Event) (old new : List MailboxState) → ((b : MailboxState) → (change b).events ≡ b.events ++ e ∷ []) → is_among receivers opener ≡ false → Begun change opener receivers old new → EachQueue (told_to receivers e) (queues_in old) (queues_in new)
+queues_begun change opener receivers e old new tells apart begun_so d =
+    slice_get-map queue_in new d.0 ∙ ap (option_map queue_in) (begun_so d)
+    ∙ by (slice_get old d.0) (same_context opener d) (is_among receivers d) (λ h. ap (λ (n : ℕ). is_among receivers (record { 0 = n })) (sym (eqb-true opener.0 d.0 h)) ∙ apart)
+    ∙ ap (option_map (told_to receivers e d)) (sym (slice_get-map queue_in old d.0))
+  where
+    by : (o : Option MailboxState) (s a : Bool) → (s ≡ true → a ≡ false) → option_map queue_in (option_map (begun change s a) o) ≡ option_map (λ queue. heard a e queue) (option_map queue_in o)
     by None s a h = refl
     by (Some b) true true h = absurd (true≢false (h refl))
     by (Some b) true false h = ap Some (sym (append-nil b.events))
-    by (Some b) false true h = refl
+    by (Some b) false true h = ap Some (tells b)
     by (Some b) false false h = ap Some (sym (append-nil b.events))
+
+-- the request that was asked last
+pub last_open : (rows rows' : List Request) (row : Request) (r : ℕ) → r ≡ length rows → rows' ≡ rows ++ row ∷ [] → still_open_at (slice_get rows' r) ≡ row.still_open
+last_open rows rows' row r at grown = ap (λ l. still_open_at (slice_get l r)) grown ∙ ap (λ n. still_open_at (slice_get (rows ++ row ∷ []) n)) at ∙ ap still_open_at (last rows)
+  where
+    last : (xs : List Request) → slice_get (xs ++ row ∷ []) (length xs) ≡ Some row
+    last [] = refl
+    last (x ∷ xs) = last xs
 
 -- what holds of a success holds where there is no error
 pub ok_holds : {A B P : Type 0} (r : Result A B) → OnOk r P → is_err r ≡ false → P

@@ -15,7 +15,8 @@ use Rattle.wx_mailbox.specs.Mailbox.{MailboxState, is_apart, paid, forgiven}
 use Rattle.wx_id.proofs.ListLemmas.{set_here, set_there}
 use Rattle.wx_id.proofs.ByContextLemmas.{other_is}
 use Rattle.wx_tables.specs.State.{owes, awaits, due, owed_in, AreOwed, queue_in, queues_in}
-use Rattle.wx_tables.specs.Ending.{other_side, ended, Ended, EndsOwed, heard, told_end, dropped, parted, EachQueue}
+use Rattle.wx_tables.specs.Ending.{other_side, ended, Ended, EndsOwed, heard, told_to, told_end, dropped, parted, EachQueue}
+use Rattle.std.proofs.lemmas.Iterator.Adapters.{option_map_id}
 
 plus_none : (n : ℕ) → n + 0 ≡ n
 plus_none n = omega arith
@@ -53,11 +54,11 @@ ends_owed ports rows boxes k owed = by (slice_get ports k) refl
         keeps (slice_get boxes d.0) (due ports rows d) (owed.each d) (omega (arith, one, within))
 
 -- the mailboxes keep what is due once the channel has ended
-pub owed_ended : (ports : List Port) (rows : List Request) (boxes boxes' : List MailboxState) (k : ℕ) (c : ContextNo) (e : Event) (port : Port) → AreOwed ports rows boxes → slice_get ports k ≡ Some port → Ended port c e boxes boxes' → AreOwed (set ports k (closed port)) rows boxes'
-owed_ended ports rows boxes boxes' k c e port owed at told = record {
+pub owed_ended : (ports : List Port) (rows : List Request) (boxes boxes' : List MailboxState) (k : ℕ) (to : List ContextNo) (e : Event) (port : Port) → AreOwed ports rows boxes → slice_get ports k ≡ Some port → Ended port to e boxes boxes' → AreOwed (set ports k (closed port)) rows boxes'
+owed_ended ports rows boxes boxes' k to e port owed at told = record {
   each = λ d.
       let sums : sum_by (owes d) (set ports k (closed port)) + owes d port ≡ sum_by (owes d) ports + 0 = owes_set ports k port (closed port) d at in
-      ap owed_in (told d) ∙ by (slice_get boxes d.0) (is_live_end (Some port) d) (is_among (other_side port c) d) (sum_by (owes d) ports) (sum_by (owes d) (set ports k (closed port))) (sum_by (awaits d) rows) (owed.each d) sums;
+      ap owed_in (told d) ∙ by (slice_get boxes d.0) (is_live_end (Some port) d) (is_among to d) (sum_by (owes d) ports) (sum_by (owes d) (set ports k (closed port))) (sum_by (awaits d) rows) (owed.each d) sums;
 }
   where
     by : (o : Option MailboxState) (live heard : Bool) (n m r : ℕ) → owed_in o ≡ n + r → m + cond live 1 0 ≡ n + 0 → owed_in (option_map (ended live heard e) o) ≡ m + r
@@ -76,13 +77,21 @@ hears_live port c d open_now h = rw open_now (by (same_context port.opener c) h 
     by true h false same = h
     by false h false same = absurd (false≢true (sym (rw same refl) ∙ h))
 
+-- so is the opener
+pub opener_live : (port : Port) (d : ContextNo) → port.is_open ≡ true → is_among (port.opener ∷ []) d ≡ true → is_live_end (Some port) d ≡ true
+opener_live port d open_now h = rw open_now (by (same_context port.opener d) h)
+  where
+    by : (s : Bool) → (s || false) ≡ true → (s || is_among port.live d) ≡ true
+    by true h = refl
+    by false h = absurd (false≢true h)
+
 -- what waits once the channel has ended
-pub queues_ended : (boxes boxes' : List MailboxState) (c : ContextNo) (e : Event) (port : Port) → port.is_open ≡ true → Ended port c e boxes boxes' → EachQueue (told_end port c e) (queues_in boxes) (queues_in boxes')
-queues_ended boxes boxes' c e port open_now told d =
+queues_ended : (boxes boxes' : List MailboxState) (to : List ContextNo) (e : Event) (port : Port) → ((d : ContextNo) → is_among to d ≡ true → is_live_end (Some port) d ≡ true) → Ended port to e boxes boxes' → EachQueue (told_to to e) (queues_in boxes) (queues_in boxes')
+queues_ended boxes boxes' to e port hears told d =
     slice_get-map queue_in boxes' d.0
     ∙ ap (option_map queue_in) (told d)
-    ∙ by (slice_get boxes d.0) (is_live_end (Some port) d) (is_among (other_side port c) d) (hears_live port c d open_now)
-    ∙ ap (option_map (told_end port c e d)) (sym (slice_get-map queue_in boxes d.0))
+    ∙ by (slice_get boxes d.0) (is_live_end (Some port) d) (is_among to d) (hears d)
+    ∙ ap (option_map (told_to to e d)) (sym (slice_get-map queue_in boxes d.0))
   where
     by : (o : Option MailboxState) (live among : Bool) → (among ≡ true → live ≡ true) → option_map queue_in (option_map (ended live among e) o) ≡ option_map (λ queue. heard among e queue) (option_map queue_in o)
     by None live among h = refl
@@ -92,34 +101,30 @@ queues_ended boxes boxes' c e port open_now told d =
     by (Some b) false false h = ap Some (sym (append-nil b.events))
 
 -- the whole of it, of the channel with a number
-pub owed_after : (ports ports' : List Port) (rows : List Request) (boxes boxes' : List MailboxState) (k : ℕ) (c : ContextNo) (e : Event) → AreOwed ports rows boxes → is_open_port (slice_get ports k) ≡ true → IfSome (slice_get ports k) (λ port. Ended port c e boxes boxes') → IfSome (slice_get ports k) (λ port. ports' ≡ set ports k (closed port)) → AreOwed ports' rows boxes'
-owed_after ports ports' rows boxes boxes' k c e owed open_now = by (slice_get ports k) refl open_now
+pub owed_after : (ports ports' : List Port) (rows : List Request) (boxes boxes' : List MailboxState) (k : ℕ) (to : Port → List ContextNo) (e : Event) → AreOwed ports rows boxes → is_open_port (slice_get ports k) ≡ true → IfSome (slice_get ports k) (λ port. Ended port (to port) e boxes boxes') → IfSome (slice_get ports k) (λ port. ports' ≡ set ports k (closed port)) → AreOwed ports' rows boxes'
+owed_after ports ports' rows boxes boxes' k to e owed open_now = by (slice_get ports k) refl open_now
   where
-    by : (o : Option Port) → slice_get ports k ≡ o → is_open_port o ≡ true → IfSome o (λ port. Ended port c e boxes boxes') → IfSome o (λ port. ports' ≡ set ports k (closed port)) → AreOwed ports' rows boxes'
+    by : (o : Option Port) → slice_get ports k ≡ o → is_open_port o ≡ true → IfSome o (λ port. Ended port (to port) e boxes boxes') → IfSome o (λ port. ports' ≡ set ports k (closed port)) → AreOwed ports' rows boxes'
     by None at open_now told changed = absurd (false≢true open_now)
-    by (Some port) at open_now told changed = rw changed (owed_ended ports rows boxes boxes' k c e port owed at told)
+    by (Some port) at open_now told changed = rw changed (owed_ended ports rows boxes boxes' k (to port) e port owed at told)
 
-pub queues_after : (o : Option Port) (boxes boxes' : List MailboxState) (c : ContextNo) (e : Event) → is_open_port o ≡ true → IfSome o (λ port. Ended port c e boxes boxes') → IfSome o (λ port. EachQueue (told_end port c e) (queues_in boxes) (queues_in boxes'))
-queues_after None boxes boxes' c e open_now told = tt
-queues_after (Some port) boxes boxes' c e open_now told = queues_ended boxes boxes' c e port open_now told
+pub queues_after : (o : Option Port) (boxes boxes' : List MailboxState) (to : Port → List ContextNo) (e : Event) → ((port : Port) (d : ContextNo) → port.is_open ≡ true → is_among (to port) d ≡ true → is_live_end (Some port) d ≡ true) → is_open_port o ≡ true → IfSome o (λ port. Ended port (to port) e boxes boxes') → IfSome o (λ port. EachQueue (told_to (to port) e) (queues_in boxes) (queues_in boxes'))
+queues_after None boxes boxes' to e hears open_now told = tt
+queues_after (Some port) boxes boxes' to e hears open_now told = queues_ended boxes boxes' (to port) e port (λ d. hears port d open_now) told
 
--- one mailbox drops what is of a channel
-pub queues_dropped : (boxes : List MailboxState) (c : ContextNo) (k : ℕ) (b b' : MailboxState) → c.0 < length boxes → b ≡ get_or boxes c.0 b → b'.events ≡ filter (is_apart k) b.events → EachQueue (dropped c k) (queues_in boxes) (queues_in (set boxes c.0 b'))
-queues_dropped boxes c k b b' within is left d =
+-- the queue of one context is changed
+pub queues_at : (boxes : List MailboxState) (c : ContextNo) (change : List Event → List Event) (b b' : MailboxState) → c.0 < length boxes → b ≡ get_or boxes c.0 b → b'.events ≡ change b.events → EachQueue (λ d queue. cond (same_context c d) (change queue) queue) (queues_in boxes) (queues_in (set boxes c.0 b'))
+queues_at boxes c change b b' within is left d =
     slice_get-map queue_in (set boxes c.0 b') d.0
     ∙ by (same_context c d) refl
-    ∙ ap (option_map (dropped c k d)) (sym (slice_get-map queue_in boxes d.0))
+    ∙ ap (option_map (λ q. cond (same_context c d) (change q) q)) (sym (slice_get-map queue_in boxes d.0))
   where
     at : slice_get boxes c.0 ≡ Some b
     at = slice_get_read boxes (length boxes) c.0 b refl within is
 
-    whole : (o : Option MailboxState) → option_map queue_in o ≡ option_map (λ q. q) (option_map queue_in o)
-    whole None = refl
-    whole (Some x) = refl
-
-    by : (s : Bool) → same_context c d ≡ s → option_map queue_in (slice_get (set boxes c.0 b') d.0) ≡ option_map (λ q. cond s (filter (is_apart k) q) q) (option_map queue_in (slice_get boxes d.0))
+    by : (s : Bool) → same_context c d ≡ s → option_map queue_in (slice_get (set boxes c.0 b') d.0) ≡ option_map (λ q. cond s (change q) q) (option_map queue_in (slice_get boxes d.0))
     by true same = let e : c.0 ≡ d.0 = eqb-true c.0 d.0 same in rw (← e) (rw (set_here boxes c.0 b' b at, at) (ap Some left))
-    by false same = rw (set_there boxes c.0 d.0 b' (other_is c.0 d.0 same)) (whole (slice_get boxes d.0))
+    by false same = rw (set_there boxes c.0 d.0 b' (other_is c.0 d.0 same)) (sym (option_map_id (option_map queue_in (slice_get boxes d.0))))
 
 -- who is a live end has a mailbox still, once the queues are changed
 pub there_after : (ports : List Port) (rows : List Request) (boxes boxes' : List MailboxState) (k : ℕ) (c d : ContextNo) (e : Event) → AreOwed ports rows boxes → is_live_end (slice_get ports k) d ≡ true → IfSome (slice_get ports k) (λ port. EachQueue (told_end port c e) (queues_in boxes) (queues_in boxes')) → d.0 < length boxes'
@@ -142,13 +147,26 @@ there_after ports rows boxes boxes' k c d e owed live = by (slice_get ports k) r
         (sym (slice_get-map queue_in boxes' d.0) ∙ queues d ∙ ap (option_map (told_end port c e d)) (slice_get-map queue_in boxes d.0)))
 
 -- one change of the queues after another
+pub queues_then : (first second : ContextNo → List Event → List Event) (old mid new : List (List Event)) → EachQueue first old mid → EachQueue second mid new → EachQueue (λ d queue. second d (first d queue)) old new
+queues_then first second old mid new one two d = two d ∙ ap (option_map (second d)) (one d) ∙ by (slice_get old d.0)
+  where
+    by : (o : Option (List Event)) → option_map (second d) (option_map (first d) o) ≡ option_map (λ queue. second d (first d queue)) o
+    by None = refl
+    by (Some q) = refl
+
 pub queues_parted : (o : Option Port) (old mid new : List (List Event)) (c : ContextNo) (k : ℕ) (e : Event) → IfSome o (λ port. EachQueue (told_end port c e) old mid) → EachQueue (dropped c k) mid new → IfSome o (λ port. EachQueue (parted port c k e) old new)
 queues_parted None old mid new c k e first second = tt
-queues_parted (Some port) old mid new c k e first second = λ d. second d ∙ ap (option_map (dropped c k d)) (first d) ∙ by d (slice_get old d.0)
-  where
-    by : (d : ContextNo) (o : Option (List Event)) → option_map (dropped c k d) (option_map (told_end port c e d) o) ≡ option_map (parted port c k e d) o
-    by d None = refl
-    by d (Some q) = refl
+queues_parted (Some port) old mid new c k e first second = queues_then (told_end port c e) (dropped c k) old mid new first second
 
 pub owed_same : (ports : List Port) (rows : List Request) (old new : List MailboxState) → AreOwed ports rows old → ((d : ContextNo) → owed_in (slice_get new d.0) ≡ owed_in (slice_get old d.0)) → AreOwed ports rows new
 owed_same ports rows old new owed same = record { each = λ d. same d ∙ owed.each d }
+
+-- one more mailbox, in which nothing is owed
+pub owed_enter : (ports : List Port) (rows : List Request) (boxes : List MailboxState) (b : MailboxState) → AreOwed ports rows boxes → b.owed ≡ 0 → AreOwed ports rows (boxes ++ b ∷ [])
+owed_enter ports rows boxes b owed none = record { each = λ d. at boxes d.0 ∙ owed.each d }
+  where
+    at : (xs : List MailboxState) (d : ℕ) → owed_in (slice_get (xs ++ b ∷ []) d) ≡ owed_in (slice_get xs d)
+    at [] zero = none
+    at [] (suc d) = refl
+    at (x ∷ xs) zero = refl
+    at (x ∷ xs) (suc d) = at xs d

@@ -13,8 +13,8 @@ use Rattle.wx_one_shot.specs.Requests.{Request}
 use Rattle.wx_mailbox.specs.Mailbox.{MailboxState, told}
 use Rattle.wx_id.specs.ByContext.{EachHas, Changed}
 use Rattle.wx_tables.specs.State.{owed_in, AreOwed, queue_in, queues_in}
-use Rattle.wx_tables.specs.Ending.{heard, EachQueue, EndsOwed, told_end, other_side}
-use Rattle.wx_tables.specs.Opening.{AreThere, told_opening}
+use Rattle.wx_tables.specs.Ending.{heard, told_to, EachQueue, EndsOwed, told_end, other_side}
+use Rattle.wx_tables.specs.Opening.{AreThere}
 use Rattle.wx_tables.specs.Telling.{told_opener}
 use Rattle.wx_tables.proofs.EndingLater.{live_owed, opener_owed}
 use Rattle.wx_tables.proofs.OwedLater.{ends_owed}
@@ -27,8 +27,8 @@ owed_told ports rows to e old new owed changed = record { each = λ d. ap owed_i
     by (Some b) true = refl
     by (Some b) false = refl
 
-pub queues_told : (to : List ContextNo) (e : Event) (old new : List MailboxState) → Changed (told e) to old new → EachQueue (told_opening to e) (queues_in old) (queues_in new)
-queues_told to e old new changed d = slice_get-map queue_in new d.0 ∙ ap (option_map queue_in) (changed d) ∙ by (slice_get old d.0) (is_among to d) ∙ ap (option_map (told_opening to e d)) (sym (slice_get-map queue_in old d.0))
+pub queues_told : (to : List ContextNo) (e : Event) (old new : List MailboxState) → Changed (told e) to old new → EachQueue (told_to to e) (queues_in old) (queues_in new)
+queues_told to e old new changed d = slice_get-map queue_in new d.0 ∙ ap (option_map queue_in) (changed d) ∙ by (slice_get old d.0) (is_among to d) ∙ ap (option_map (told_to to e d)) (sym (slice_get-map queue_in old d.0))
   where
     by : (o : Option MailboxState) (s : Bool) → option_map queue_in (option_map (λ b. cond s (told e b) b) o) ≡ option_map (λ queue. heard s e queue) (option_map queue_in o)
     by None s = refl
@@ -59,50 +59,31 @@ on_ok : {A B P Q : Type 0} (r : Result A B) → (P → Q) → OnOk r P → OnOk 
 on_ok (Ok a) f h = f h
 on_ok (Err b) f h = tt
 
-pub opener_told : {A B : Type 0} (r : Result A B) (o : Option Port) (opener : ContextNo) (e : Event) (old new : List (List Event)) → IfSome o (λ port. opener ≡ port.opener) → OnOk r (EachQueue (told_opening (opener ∷ []) e) old new) → OnOk r (IfSome o (λ port. EachQueue (told_opener port e) old new))
+pub opener_told : {A B : Type 0} (r : Result A B) (o : Option Port) (opener : ContextNo) (e : Event) (old new : List (List Event)) → IfSome o (λ port. opener ≡ port.opener) → OnOk r (EachQueue (told_to (opener ∷ []) e) old new) → OnOk r (IfSome o (λ port. EachQueue (told_opener port e) old new))
 opener_told r o opener e old new is h = on_ok r (by o is) h
   where
-    one : (s : Bool) → (s || false) ≡ s
-    one true = refl
-    one false = refl
-
-    by : (o : Option Port) → IfSome o (λ port. opener ≡ port.opener) → EachQueue (told_opening (opener ∷ []) e) old new → IfSome o (λ port. EachQueue (told_opener port e) old new)
+    by : (o : Option Port) → IfSome o (λ port. opener ≡ port.opener) → EachQueue (told_to (opener ∷ []) e) old new → IfSome o (λ port. EachQueue (told_opener port e) old new)
     by None is h = tt
-    by (Some port) is h = λ d. h d ∙ ap (λ s. option_map (λ queue. heard s e queue) (slice_get old d.0)) (one (same_context opener d) ∙ ap (λ (c : ContextNo). same_context c d) is)
+    by (Some port) is h = λ d. h d ∙ ap (λ (c : ContextNo). option_map (told_to (c ∷ []) e d) (slice_get old d.0)) is
 
-pub live_told : {A B : Type 0} (r : Result A B) (o : Option Port) (live : List ContextNo) (e : Event) (old new : List (List Event)) → live ≡ live_of o → OnOk r (EachQueue (told_opening live e) old new) → OnOk r (IfSome o (λ port. EachQueue (told_opening port.live e) old new))
+pub live_told : {A B : Type 0} (r : Result A B) (o : Option Port) (live : List ContextNo) (e : Event) (old new : List (List Event)) → live ≡ live_of o → OnOk r (EachQueue (told_to live e) old new) → OnOk r (IfSome o (λ port. EachQueue (told_to port.live e) old new))
 live_told r o live e old new is h = on_ok r (by o is) h
   where
-    by : (o : Option Port) → live ≡ live_of o → EachQueue (told_opening live e) old new → IfSome o (λ port. EachQueue (told_opening port.live e) old new)
+    by : (o : Option Port) → live ≡ live_of o → EachQueue (told_to live e) old new → IfSome o (λ port. EachQueue (told_to port.live e) old new)
     by None is h = tt
-    by (Some port) is h = λ d. h d ∙ ap (λ l. option_map (told_opening l e d) (slice_get old d.0)) is
+    by (Some port) is h = λ d. h d ∙ ap (λ l. option_map (told_to l e d) (slice_get old d.0)) is
 
-pub post_by_opener : {A B : Type 0} (r : Result A B) (o : Option Port) (opener c : ContextNo) (e : Event) (old new : List (List Event)) → IfSome o (λ port. opener ≡ port.opener) → same_context opener c ≡ true → OnOk r (IfSome o (λ port. EachQueue (told_opening port.live e) old new)) → OnOk r (IfSome o (λ port. EachQueue (told_end port c e) old new))
+pub post_by_opener : {A B : Type 0} (r : Result A B) (o : Option Port) (opener c : ContextNo) (e : Event) (old new : List (List Event)) → IfSome o (λ port. opener ≡ port.opener) → same_context opener c ≡ true → OnOk r (IfSome o (λ port. EachQueue (told_to port.live e) old new)) → OnOk r (IfSome o (λ port. EachQueue (told_end port c e) old new))
 post_by_opener r o opener c e old new is same h = on_ok r (by o is) h
   where
-    by : (o : Option Port) → IfSome o (λ port. opener ≡ port.opener) → IfSome o (λ port. EachQueue (told_opening port.live e) old new) → IfSome o (λ port. EachQueue (told_end port c e) old new)
+    by : (o : Option Port) → IfSome o (λ port. opener ≡ port.opener) → IfSome o (λ port. EachQueue (told_to port.live e) old new) → IfSome o (λ port. EachQueue (told_end port c e) old new)
     by None is h = tt
     by (Some port) is h = λ d. h d ∙ ap (λ s. option_map (λ queue. heard (is_among (cond s port.live (port.opener ∷ [])) d) e queue) (slice_get old d.0)) (sym (ap (λ (x : ContextNo). same_context x c) (sym is) ∙ same))
 
 pub post_by_receiver : {A B : Type 0} (r : Result A B) (o : Option Port) (opener c : ContextNo) (e : Event) (old new : List (List Event)) → IfSome o (λ port. opener ≡ port.opener) → same_context opener c ≡ false → OnOk r (IfSome o (λ port. EachQueue (told_opener port e) old new)) → OnOk r (IfSome o (λ port. EachQueue (told_end port c e) old new))
 post_by_receiver r o opener c e old new is same h = on_ok r (by o is) h
   where
-    one : (s : Bool) → s ≡ (s || false)
-    one true = refl
-    one false = refl
-
     by : (o : Option Port) → IfSome o (λ port. opener ≡ port.opener) → IfSome o (λ port. EachQueue (told_opener port e) old new) → IfSome o (λ port. EachQueue (told_end port c e) old new)
     by None is h = tt
     by (Some port) is h = λ d. h d
-        ∙ ap (λ s. option_map (λ queue. heard s e queue) (slice_get old d.0)) (one (same_context port.opener d))
         ∙ ap (λ s. option_map (λ queue. heard (is_among (cond s port.live (port.opener ∷ [])) d) e queue) (slice_get old d.0)) (sym (ap (λ (x : ContextNo). same_context x c) (sym is) ∙ same))
-
-pub same_test : (m n : ℕ) → m ≡ n → (m == n) ≡ true
-same_test m n h = grind (arith, nat_tests)
-
-pub other_test : (m n : ℕ) → (m ≡ n → ⊥) → (m == n) ≡ false
-other_test m n h = by (m == n) refl
-  where
-    by : (b : Bool) → (m == n) ≡ b → b ≡ false
-    by true e = absurd (h ((Decides-eqb m n).0 e))
-    by false e = refl

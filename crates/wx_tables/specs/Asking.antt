@@ -7,8 +7,9 @@ use Rattle.wx_id.specs.declared.events.EventKind.{EventKind}
 use Rattle.wx_id.specs.declared.events.EventKind.TheVariants.{Closed}
 use Rattle.wx_one_shot.specs.Requests.{Request, concerns_at, settled, without}
 use Rattle.wx_id.specs.Contexts.{is_among}
+use Rattle.wx_tables.specs.State.{TablesState}
 use Rattle.wx_tables.specs.Ending.{heard}
-use Rattle.wx_tables.specs.Leaving.{told_by}
+use Rattle.wx_tables.specs.Leaving.{told_by, told_ends}
 
 -- the asker of the request hears of its outcome
 abbrev pub told_asker : Bool → Request → Event → ContextNo → List Event → List Event
@@ -36,3 +37,7 @@ outcome r = Closed (record { 0 = r })
 -- what waits once c has left the requests
 abbrev pub told_outcomes : List Request → ContextNo → EntryNo → ContextNo → List Event → List Event
 told_outcomes rows c n = told_by (λ o. hears_outcome o c) outcome rows n (length rows)
+
+-- what waits once c has left the channels and then the requests
+abbrev pub told_leaving : TablesState → ContextNo → EntryNo → ContextNo → List Event → List Event
+told_leaving tables c n d queue = told_outcomes tables.requests c n d (told_ends tables.ports c n d queue)

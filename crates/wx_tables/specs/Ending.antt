@@ -16,9 +16,10 @@ other_side port c = cond (same_context port.opener c) port.live (port.opener ∷
 abbrev pub ended : Bool → Bool → Event → MailboxState → MailboxState
 ended live heard e b = cond live (cond heard (paid e b) (forgiven b)) b
 
--- all mailboxes when the channel ends
-abbrev pub Ended : Port → ContextNo → Event → List MailboxState → List MailboxState → Type 0
-Ended port c e old new = (d : ContextNo) → slice_get new d.0 ≡ option_map (ended (is_live_end (Some port) d) (is_among (other_side port c) d) e) (slice_get old d.0)
+-- all mailboxes when the channel ends and these hear of it
+abbrev pub Ended : Port → List ContextNo → Event → List MailboxState → List MailboxState → Type 0
+Ended port to e old new =
+    (d : ContextNo) → slice_get new d.0 ≡ option_map (ended (is_live_end (Some port) d) (is_among to d) e) (slice_get old d.0)
 
 -- each live end of the channel has a mailbox that keeps a place
 abbrev pub EndsOwed : Port → List MailboxState → Type 0
@@ -32,9 +33,13 @@ heard b e queue = queue ++ cond b (e ∷ []) []
 abbrev pub EachQueue : (ContextNo → List Event → List Event) → List (List Event) → List (List Event) → Type 0
 EachQueue change old new = (d : ContextNo) → slice_get new d.0 ≡ option_map (change d) (slice_get old d.0)
 
--- what waits once the channel has ended by c
+-- what waits once these are told the event
+abbrev pub told_to : List ContextNo → Event → ContextNo → List Event → List Event
+told_to to e d queue = heard (is_among to d) e queue
+
+-- what waits once those on the other side from c are told the event
 abbrev pub told_end : Port → ContextNo → Event → ContextNo → List Event → List Event
-told_end port c e d queue = heard (is_among (other_side port c) d) e queue
+told_end port c = told_to (other_side port c)
 
 -- context c drops what waits of channel k
 abbrev pub dropped : ContextNo → ℕ → ContextNo → List Event → List Event

@@ -11,7 +11,7 @@ use Rattle.wx_mailbox.specs.Mailbox.{MailboxState}
 -- the channels and requests by number, and what waits for each context, the first event at the head
 pub record TablesState : Type 0 where
   pub ports : List Port
-  pub rows : List Request
+  pub requests : List Request
   pub queues : List (List Event)
 
 abbrev pub queue_in : MailboxState → List Event

@@ -1,4 +1,4 @@
-//! The outcome of a request.
+//! The outcome of a request: its asker is told, in the place that was kept for it.
 ghost use Rattle.std.specs.Prelude.{◌≡◌, ◌<◌, ◌∷◌, [], length, map, IsTrue, IfSome, true, slice_get, slice_set};
 ghost use Rattle.wx_one_shot.specs.declared.requests.Standing.TheVariants.{Open};
 ghost use Rattle.wx_one_shot.specs.Requests.{concerns_at, is_unsettled_at, settled, standing_at, without};
@@ -111,7 +111,7 @@ pub fn leave_requests(
     requires owed { AreOwed ports.now requests.old boxes.old.items }
     ensures owed { AreOwed ports.now requests.new boxes.new.items }
     ensures requests { requests.new ≡ map (row_left_at c) requests.old }
-    ensures queues { EachQueue (told_outcomes requests.old c n (length requests.old)) (queues_in boxes.old.items) (queues_in boxes.new.items) }
+    ensures queues { EachQueue (told_outcomes requests.old c n) (queues_in boxes.old.items) (queues_in boxes.new.items) }
 {
     let count = requests.count();
     let mut from: u64 = 0;

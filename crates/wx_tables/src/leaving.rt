@@ -1,10 +1,12 @@
-//! The leave of a context.
+//! The leave of a context: its channels in rising number, and then its requests.
 ghost use Rattle.std.specs.Prelude.{◌≡◌, ◌<◌, ◌∷◌, [], length, map, IsTrue, IfSome, not, true, slice_get, slice_set};
 ghost use Rattle.wx_port.specs.Port.{is_live_end, without};
 ghost use Rattle.wx_tables.specs.State.{AreOwed, queues_in};
 ghost use Rattle.wx_tables.specs.Ending.{EachQueue};
+ghost use Rattle.wx_tables.specs.Asking.{row_left_at, told_leaving};
 ghost use Rattle.wx_tables.specs.Leaving.{closes_by, left_at, told_leave, told_ends};
 
+use crate::asking::leave_requests;
 use crate::ending::end_channel;
 use wx_id::{ChannelNo, ContextNo, EntryNo, Event, EventKind};
 use wx_mailbox::{Mailbox, mailboxes};
@@ -65,7 +67,7 @@ fn leave_channel(
 }
 
 /// Context c leaves each open channel of which it is a live end, in entry n.
-pub fn leave_channels(
+fn leave_channels(
     ports: &mut Ports,
     requests: &Requests,
     boxes: &mut Vec<Mailbox>,
@@ -75,7 +77,7 @@ pub fn leave_channels(
     requires owed { AreOwed ports.old requests.now boxes.old.items }
     ensures owed { AreOwed ports.new requests.now boxes.new.items }
     ensures ports { ports.new ≡ map (left_at c) ports.old }
-    ensures queues { EachQueue (told_ends ports.old c n (length ports.old)) (queues_in boxes.old.items) (queues_in boxes.new.items) }
+    ensures queues { EachQueue (told_ends ports.old c n) (queues_in boxes.old.items) (queues_in boxes.new.items) }
 {
     let count = ports.count();
     let mut from: u64 = 0;
@@ -87,4 +89,23 @@ pub fn leave_channels(
         leave_channel(ports, requests, boxes, k, c, e);
         from = k.0 + 1;
     }
+}
+
+/// Context c leaves its channels, and then its requests, in entry n.
+pub fn leave(
+    ports: &mut Ports,
+    requests: &mut Requests,
+    boxes: &mut Vec<Mailbox>,
+    c: ContextNo,
+    n: EntryNo,
+)
+    requires owed { AreOwed ports.old requests.old boxes.old.items }
+    ensures owed { AreOwed ports.new requests.new boxes.new.items }
+    ensures ports { ports.new ≡ map (left_at c) ports.old }
+    ensures requests { requests.new ≡ map (row_left_at c) requests.old }
+    ensures queues { EachQueue (told_leaving (record { ports = ports.old; requests = requests.old; queues = queues_in boxes.old.items }) c n)
+        (queues_in boxes.old.items) (queues_in boxes.new.items) }
+{
+    leave_channels(ports, requests, boxes, c, n);
+    leave_requests(ports, requests, boxes, c, n);
 }

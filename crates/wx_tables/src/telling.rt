@@ -1,10 +1,11 @@
-//! A message on a channel.
+//! A message on a channel: those on the other side are told, once there is room for all of them.
 ghost use Rattle.std.specs.Prelude.{◌≡◌, ◌<◌, ◌∷◌, [], length, IsTrue, IfSome, OnOk, OnErr, slice_get};
 ghost use Rattle.wx_id.specs.Contexts.{are_distinct};
 ghost use Rattle.wx_port.specs.Port.{is_live_end, is_open_port};
 ghost use Rattle.wx_tables.specs.State.{AreOwed, queues_in};
 ghost use Rattle.wx_tables.specs.Ending.{told_end, EachQueue};
-ghost use Rattle.wx_tables.specs.Opening.{AreThere, told_opening};
+ghost use Rattle.wx_tables.specs.Opening.{AreThere};
+ghost use Rattle.wx_tables.specs.Ending.{told_to};
 ghost use Rattle.wx_tables.specs.Telling.{told_opener};
 
 use wx_id::{ChannelNo, ContextNo, Event, NoMemory};
@@ -21,10 +22,10 @@ fn tell_all(
     e: Event,
 ) -> Result<(), NoMemory>
     requires owed { AreOwed ports.now requests.now boxes.old.items }
-    requires apart { IsTrue (are_distinct to.now) }
+    requires distinct { IsTrue (are_distinct to.now) }
     requires there { AreThere to.now (queues_in boxes.old.items) }
     ensures owed { AreOwed ports.now requests.now boxes.new.items }
-    ensures queues { OnOk result (EachQueue (told_opening to.now e) (queues_in boxes.old.items) (queues_in boxes.new.items)) }
+    ensures queues { OnOk result (EachQueue (told_to to.now e) (queues_in boxes.old.items) (queues_in boxes.new.items)) }
     ensures same { OnErr result (queues_in boxes.new.items ≡ queues_in boxes.old.items) }
 {
     let _ = ports;
@@ -65,7 +66,7 @@ fn tell_live(
     requires owed { AreOwed ports.now requests.now boxes.old.items }
     requires is_open { IsTrue (is_open_port (slice_get ports.now k.0)) }
     ensures owed { AreOwed ports.now requests.now boxes.new.items }
-    ensures queues { OnOk result (IfSome (slice_get ports.now k.0) (λ port. EachQueue (told_opening port.live e) (queues_in boxes.old.items) (queues_in boxes.new.items))) }
+    ensures queues { OnOk result (IfSome (slice_get ports.now k.0) (λ port. EachQueue (told_to port.live e) (queues_in boxes.old.items) (queues_in boxes.new.items))) }
     ensures same { OnErr result (queues_in boxes.new.items ≡ queues_in boxes.old.items) }
 {
     let live = ports.live(k);

@@ -4,8 +4,8 @@ use Rattle.wx_mailbox.specs.Mailbox.{paid}
 use Rattle.wx_tables.proofs.EndingLater.{live_apart, live_owed, opener_owed, still_has, opener_apart, ended_by_opener}
 use Rattle.wx_tables.proofs.ending.end_by_opener.Goals as goal
 
-pub pay-requires-clause-apart : goal.pay-requires-clause-apart
-pay-requires-clause-apart c = rw c.live-live.ensures.value (live_apart (slice_get c.args.ports.now c.args.k.0) c.live-live.ensures.sound)
+pub pay-requires-clause-distinct : goal.pay-requires-clause-distinct
+pay-requires-clause-distinct c = rw c.live-live.ensures.value (live_apart (slice_get c.args.ports.now c.args.k.0) c.live-live.ensures.sound)
 
 pub pay-requires-clause-owed : goal.pay-requires-clause-owed
 pay-requires-clause-owed c = rw c.live-live.ensures.value (live_owed (slice_get c.args.ports.now c.args.k.0) c.args.boxes.now.items c.requires.is_open c.requires.owed)
