@@ -1,9 +1,10 @@
 -- What a call on the channels is to the requests that are kept as them.
-use Rattle.std.proofs.Common.{◌≡◌, ℕ, ◌<◌, List, [], ◌∷◌, ◌++◌, suc, zero, length, filter, map, set, refl, ap, sym, ◌∙◌, Bool, true, false, not, cond, is_some, rules, arith, subst}
+use Rattle.std.proofs.Common.{◌≡◌, ◌≢◌, ℕ, ◌<◌, List, [], ◌∷◌, ◌++◌, suc, zero, length, filter, map, set, refl, ap, sym, ◌∙◌, Bool, true, false, not, cond, is_some, rules, arith, subst}
 use Rattle.std.specs.Prelude.{Option, Some, None, slice_get, IfSome, ◌||◌, ◌&&◌, ◌==◌, if◌then◌else◌}
 use Rattle.std.specs.Option.{option_map}
 use Rattle.std.proofs.lemmas.Option.{slice_get-map}
 use Rattle.std.proofs.lemmas.List.{length-map, map-append, map-set}
+use Rattle.std.proofs.Math.Dec.{eqb-suc-zero}
 use Rattle.std.proofs.lemmas.Bool.{false≢true, true≢false}
 use Rattle.wx_id.specs.declared.numbers.ContextNo.{ContextNo}
 use Rattle.wx_id.specs.declared.events.End.{End}
@@ -80,7 +81,7 @@ closed_is ports k = by (slice_get ports k)
 
 live_is : (port : Port) (cs : List ContextNo) → port.is_open ≡ true → request_of (with_live port cs) ≡ record { asker = port.opener; receivers = port.receivers; still_open = cs; is_settled = length cs == 0 }
 live_is port [] h = refl
-live_is port (x ∷ cs) h = rw h refl
+live_is port (x ∷ cs) h = rw (h, eqb-suc-zero (length cs)) refl
 
 -- a receiver that may reply is a live end, and is not the asker
 open_end : (p : Port) (c : ContextNo) → IsSound p → standing_at (Some (request_of p)) c ≡ Open → (p.is_open ≡ true) × (is_among p.live c ≡ true) × (same_context p.opener c ≡ false)
@@ -134,19 +135,29 @@ standing_is ports k c live sound is shut = rw (request_at ports k) (by (slice_ge
         among false e true f = rw (e, f) refl
         among false e false f = rw (e, f) refl
 
+-- a channel that is left is a request that is left
+left_one : (c opener : ContextNo) (receivers live : List ContextNo) (b : Bool) → request_of (ports_spec.left_by c (record { opener = opener; receivers = receivers; live = live; is_open = b })) ≡ left_by c (request_of (record { opener = opener; receivers = receivers; live = live; is_open = b }))
+left_one c opener receivers live false = refl
+left_one c opener receivers live true = by (same_context opener c) refl (is_among receivers c) refl
+  where
+    p : Port
+    p = record { opener = opener; receivers = receivers; live = live; is_open = true }
+
+    by : (s : Bool) → same_context opener c ≡ s → (r : Bool) → is_among receivers c ≡ r → request_of (ports_spec.left_by c p) ≡ left_by c (request_of p)
+    by true f r g = rw f refl
+    by false f true g = rw (f, g) (live_is p (filter (is_other c) live) refl)
+    by false f false g = rw (f, g) refl
+
 -- all channels are left, so all requests are
 pub left_is : (c : ContextNo) (ports : List Port) → requests_of (map (ports_spec.left_by c) ports) ≡ map (left_by c) (requests_of ports)
 left_is c [] = refl
-left_is c (p ∷ ports) = rw (left_is c ports, one) refl
-  where
-    one : request_of (ports_spec.left_by c p) ≡ left_by c (request_of p)
-    one = by p.is_open refl (same_context p.opener c) refl (is_among p.receivers c) refl
-      where
-        by : (b : Bool) → p.is_open ≡ b → (s : Bool) → same_context p.opener c ≡ s → (r : Bool) → is_among p.receivers c ≡ r → request_of (ports_spec.left_by c p) ≡ left_by c (request_of p)
-        by false e s f r g = rw e refl
-        by true e true f r g = rw (e, f) refl
-        by true e false f true g = rw (e, f, g) (live_is p (filter (is_other c) p.live) e)
-        by true e false f false g = rw (e, f, g) (rw e refl)
+left_is c (p ∷ ports) = rw (left_is c ports, left_one c p.opener p.receivers p.live p.is_open) refl
+
+-- who is no receiver of the channel is a stranger to the request
+pub standing_other : (e : End) (live : Bool) → e ≢ Receiver → Stranger ≡ standing_by e live
+standing_other Receiver live h = absurd (h refl)
+standing_other Opener live h = refl
+standing_other Neither live h = refl
 
 -- there are as many
 pub count_is : (ports : List Port) → length (requests_of ports) ≡ length ports

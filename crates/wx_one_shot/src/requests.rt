@@ -184,7 +184,6 @@ impl Requests {
 
     /// Context c leaves: each unsettled request that it asked is settled, and those that were sent to it are left to
     /// their other receivers. Takes no memory.
-    #[tactic(auto, using(crate::proofs::KeptLater::left_is))]
     pub fn leave(&mut self, c: ContextNo)
         ensures { self.new ≡ map (left_by c) self.old }
     {
