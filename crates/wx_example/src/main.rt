@@ -28,7 +28,7 @@ fn page(alloc: Global, path: &str) -> Option<Context>
     Some(Context::Page { ext, path })
 }
 
-/// The popup connects to the hub and posts a text; what the hub takes, and the journal. Nothing where memory was refused.
+/// The popup connects to the hub and posts a text: what the hub takes, and the journal. None where memory was refused.
 fn talk(alloc: Global, text: JsonText) -> Option<(JsonText, Journal)> {
     let mut broker = Broker::new(alloc, World::new(alloc));
     let hub = broker.enter(page(alloc, "/hub")?).ok()?;
