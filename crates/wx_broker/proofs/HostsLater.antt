@@ -16,8 +16,7 @@ use Rattle.wx_machine.specs.Texts.{is_over}
 use Rattle.wx_machine.specs.Answers.{said_for, text_or_end}
 use Rattle.wx_port.specs.Port.{Port, is_open_port}
 use Rattle.wx_one_shot.specs.Requests.{Request, is_settled_at}
-use Rattle.wx_broker.specs.Carried.{text_told}
-use Rattle.wx_broker.specs.Tables.{port_said, request_said, HasChannels, HasRequests, IfRequest, IsWithin, is_over_at, said_at}
+use Rattle.wx_broker.specs.Tables.{port_said, request_said, HasChannels, HasRequests, IfRequest, IsWithin, is_over_at, said_at, text_told}
 use Rattle.wx_broker.proofs.TestsLater.{not_not, outside}
 use Rattle.wx_broker.proofs.WorkLater.{work_within}
 use Rattle.wx_broker.proofs.PortsLater.{channels_counted}

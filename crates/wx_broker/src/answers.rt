@@ -1,8 +1,13 @@
 //! The machine's answers. Channels and requests are found in their tables, the rest by walking the journal.
-ghost use Rattle.std.specs.Prelude.{◌≡◌, ℕ, List, cond, not, option_copied, reverse, slice_get};
-ghost use Rattle.wx_external.specs.World.{WorldLists};
-ghost use Rattle.wx_machine.specs.Answers.{answer_after, at_end, gate_for, where_heard, where_open, where_short};
+ghost use Rattle.std.specs.Prelude.{◌≡◌, cond, length, not, option_copied, reverse, slice_get};
+ghost use Rattle.wx_machine.specs.Answers.{answer_after, at_end, gate_for, is_late, on_request, told_or_empty};
+ghost use Rattle.wx_machine.specs.Answers.{where_heard, where_open, where_short};
+ghost use Rattle.wx_machine.specs.Channels.{channel, channels, end_in};
+ghost use Rattle.wx_machine.specs.Closing.{is_closed};
 ghost use Rattle.wx_machine.specs.Contexts.{context_of, is_live, receivers_of};
+ghost use Rattle.wx_machine.specs.Each.{first};
+ghost use Rattle.wx_machine.specs.Events.{pending};
+ghost use Rattle.wx_machine.specs.Requests.{is_asked, request};
 ghost use Rattle.wx_port.specs.Port.{end_of, is_open_port};
 ghost use Rattle.wx_one_shot.specs.Requests.{standing_at};
 ghost use Rattle.wx_broker.specs.Tables.{HasChannels, HasRequests, is_channel, is_request, is_done, is_first, on_standing};
@@ -96,8 +101,11 @@ pub fn connect(
     target: &Target,
 ) -> Answer
     requires { HasChannels (reverse entries.now) ports.now }
-    ensures { (name : List ℕ)
-        → result ≡ answer_after world.now (reverse entries.now) (Who.Context c) (Call.Connect target.now name) }
+    ensures { result ≡ cond (is_live (reverse entries.now) c)
+        (where_open (gate_for world.now (context_of (reverse entries.now) c) target.now)
+        (where_heard (receivers_of (reverse entries.now) c target.now Sort.Connection)
+        (Answer.Channel (record { 0 = length (channels (reverse entries.now)) }))))
+        Answer.Gone }
 {
     let opened = Answer::Channel(ChannelNo(ports.count()));
     to_target(world, entries, c, target, Sort::Connection, opened)
@@ -106,8 +114,10 @@ pub fn connect(
 /// The answer to a post.
 pub fn post(entries: &[Entry], ports: &Ports, c: ContextNo, k: ChannelNo, text: &JsonText) -> Answer
     requires { HasChannels (reverse entries.now) ports.now }
-    ensures { (world : WorldLists)
-        → result ≡ answer_after world (reverse entries.now) (Who.Context c) (Call.Post k text.now) }
+    ensures { result ≡ cond (is_live (reverse entries.now) c)
+        (at_end (end_in (channel (reverse entries.now) k.0) c) (is_closed (reverse entries.now) k.0)
+        Answer.PortClosed (where_short text.now Answer.Posted))
+        Answer.Gone }
 {
     if !contexts::is_live(entries, c) {
         return Answer::Gone;
@@ -124,8 +134,10 @@ pub fn post(entries: &[Entry], ports: &Ports, c: ContextNo, k: ChannelNo, text: 
 /// The answer to a disconnect.
 pub fn disconnect(entries: &[Entry], ports: &Ports, c: ContextNo, k: ChannelNo) -> Answer
     requires { HasChannels (reverse entries.now) ports.now }
-    ensures { (world : WorldLists)
-        → result ≡ answer_after world (reverse entries.now) (Who.Context c) (Call.Disconnect k) }
+    ensures { result ≡ cond (is_live (reverse entries.now) c)
+        (at_end (end_in (channel (reverse entries.now) k.0) c) (is_closed (reverse entries.now) k.0)
+        Answer.NoEffect Answer.Done)
+        Answer.Gone }
 {
     if !contexts::is_live(entries, c) {
         return Answer::Gone;
@@ -158,8 +170,10 @@ pub fn reply(
     text: &JsonText,
 ) -> Answer
     requires { HasRequests (reverse entries.now) rows.now }
-    ensures { (world : WorldLists)
-        → result ≡ answer_after world (reverse entries.now) (Who.Context c) (Call.Reply r text.now) }
+    ensures { result ≡ cond (is_live (reverse entries.now) c)
+        (on_request (is_asked (request (reverse entries.now) r.0) c) (is_late (reverse entries.now) r.0 c)
+        (where_short text.now Answer.First))
+        Answer.Gone }
 {
     if !contexts::is_live(entries, c) {
         return Answer::Gone;
@@ -170,8 +184,10 @@ pub fn reply(
 /// The answer to a decline.
 pub fn decline(entries: &[Entry], rows: &Requests, c: ContextNo, r: RequestNo) -> Answer
     requires { HasRequests (reverse entries.now) rows.now }
-    ensures { (world : WorldLists)
-        → result ≡ answer_after world (reverse entries.now) (Who.Context c) (Call.Decline r) }
+    ensures { result ≡ cond (is_live (reverse entries.now) c)
+        (on_request (is_asked (request (reverse entries.now) r.0) c) (is_late (reverse entries.now) r.0 c)
+        Answer.Done)
+        Answer.Gone }
 {
     if !contexts::is_live(entries, c) {
         return Answer::Gone;
@@ -181,7 +197,8 @@ pub fn decline(entries: &[Entry], rows: &Requests, c: ContextNo, r: RequestNo) -
 
 /// The answer to a take.
 pub fn take(entries: &[Entry], c: ContextNo) -> Answer
-    ensures { (world : WorldLists) → result ≡ answer_after world (reverse entries.now) (Who.Context c) Call.Take }
+    ensures { result ≡ cond (is_live (reverse entries.now) c)
+        (told_or_empty (first (pending (reverse entries.now) c))) Answer.Gone }
 {
     if !contexts::is_live(entries, c) {
         return Answer::Gone;

@@ -1,16 +1,16 @@
 //! The machine's answers to the calls that start native hosts, and to those of hosts.
-ghost use Rattle.std.specs.Prelude.{◌≡◌, ℕ, List, cond, length, option_copied, reverse};
-ghost use Rattle.wx_machine.specs.Answers.{answer_after, answer_to_host, is_news, native_gate_for, text_or_end, where_native};
+ghost use Rattle.std.specs.Prelude.{◌≡◌, cond, length, option_copied, reverse};
+ghost use Rattle.wx_machine.specs.Answers.{answer_after, answer_to_host, is_news, native_gate_for, said_for, text_or_end, where_native};
 ghost use Rattle.wx_machine.specs.Contexts.{context_of, is_live};
 ghost use Rattle.wx_machine.specs.Hosts.{work_of};
-ghost use Rattle.wx_machine.specs.Texts.{is_over};
+ghost use Rattle.wx_machine.specs.Texts.{has_ended, is_over};
 ghost use Rattle.wx_broker.specs.Tables.{HasChannels, HasRequests, IsWithin, is_over_at, said_at};
 
 use crate::answers::where_short;
 use wx_context::Context;
 use wx_external::{NativeVerdict, World, native_gate};
 use wx_id::{ChannelNo, ContextNo, EntryNo, HostNo, RequestNo, Utf8Text};
-use wx_machine::{Answer, Call, Entry, JsonText, Reason, Who, Work};
+use wx_machine::{Answer, Call, Entry, JsonText, Who, Work};
 use wx_one_shot::Requests;
 use wx_port::Ports;
 use wx_walks::{contexts, hosts, texts};
@@ -149,7 +149,7 @@ fn said_at(over: bool, work: Option<Work>) -> Answer
 pub fn host_said(entries: &[Entry], ports: &Ports, rows: &Requests, h: HostNo) -> Answer
     requires channels { HasChannels (reverse entries.now) ports.now }
     requires requests { HasRequests (reverse entries.now) rows.now }
-    ensures { (text : List ℕ) → result ≡ answer_to_host (reverse entries.now) h (Call.HostSaid text) }
+    ensures { result ≡ said_for (reverse entries.now) (work_of (reverse entries.now) h) }
 {
     said_at(
         is_work_over(entries, ports, rows, h),
@@ -159,7 +159,7 @@ pub fn host_said(entries: &[Entry], ports: &Ports, rows: &Requests, h: HostNo) -
 
 /// The answer to a host's end.
 pub fn host_ended(entries: &[Entry], h: HostNo) -> Answer
-    ensures { (reason : Reason) → result ≡ answer_to_host (reverse entries.now) h (Call.HostEnded reason) }
+    ensures { result ≡ cond (has_ended (reverse entries.now) h) Answer.Already Answer.Done }
 {
     if texts::has_ended(entries, h) {
         Answer::Already

@@ -12,6 +12,7 @@ use Rattle.wx_status.specs.declared.status.Status.{Status}
 use Rattle.wx_status.specs.declared.status.Status.TheVariants as status
 use Rattle.wx_status.specs.Changes.{ShelfChange, SinkChange, HasFailed}
 use Rattle.wx_status.specs.Told.{LinesTold}
+use Rattle.wx_words.specs.Words.{how_asked}
 use Rattle.wx_cmd.specs.Scenes.{scene_of_content, IsTextOfRun}
 use Rattle.wx_cmd.specs.Endings.{answer_by}
 use Rattle.wx_cmd.specs.Starters.{StarterChange}
@@ -74,13 +75,13 @@ module _ (words : List (List ℕ)) (shelf : ShelfChange) (starter : StarterChang
   scene_is : (scene : SceneValue) → Accepted words shelf scene → scene ≡ sound.scene
   scene_is scene accepted = ok_scene scene sound.scene (sym accepted.accepted ∙ ap scene_of_content (content_is accepted.content accepted.found) ∙ sound.accepted)
 
-  world_is : WorldLaw → (scene : SceneValue) (world : WorldLists) → Accepted words shelf scene → IsWorldOf shelf.files scene world → world_of sound.files sound.scene ≡ Ok world
+  world_is : WorldLaw → (scene : SceneValue) (world : WorldLists) → Accepted words shelf scene → IsWorldOf shelf.before.files scene world → world_of sound.files sound.scene ≡ Ok world
   world_is law scene world accepted is =
-      law sound.files sound.scene world (subst (λ (f : Option Files). IsWorldOf f sound.scene world) sound.tells (subst (λ (s : SceneValue). IsWorldOf shelf.files s world) (scene_is scene accepted) is))
+      law sound.files sound.scene world (subst (λ (f : Option Files). IsWorldOf f sound.scene world) sound.tells (subst (λ (s : SceneValue). IsWorldOf shelf.before.files s world) (scene_is scene accepted) is))
 
-  refusal_is : RefusalLaw → (scene : SceneValue) (refusal : FileRefusal) → Accepted words shelf scene → IsFirstRefusal shelf.files scene refusal → world_of sound.files sound.scene ≡ Err refusal
+  refusal_is : RefusalLaw → (scene : SceneValue) (refusal : FileRefusal) → Accepted words shelf scene → IsFirstRefusal shelf.before.files scene refusal → world_of sound.files sound.scene ≡ Err refusal
   refusal_is law scene refusal accepted is =
-      law sound.files sound.scene refusal (subst (λ (f : Option Files). IsFirstRefusal f sound.scene refusal) sound.tells (subst (λ (s : SceneValue). IsFirstRefusal shelf.files s refusal) (scene_is scene accepted) is))
+      law sound.files sound.scene refusal (subst (λ (f : Option Files). IsFirstRefusal f sound.scene refusal) sound.tells (subst (λ (s : SceneValue). IsFirstRefusal shelf.before.files s refusal) (scene_is scene accepted) is))
 
   -- no read failed, and the scene is not refused
   no_read_fault : (file : List ℕ) → Judged words shelf starter (read_fault file) → ⊥
@@ -93,7 +94,7 @@ module _ (words : List (List ℕ)) (shelf : ShelfChange) (starter : StarterChang
       cc
 
   answers_run : WorldLaw → RefusalLaw → (world : WorldLists) → world_of sound.files sound.scene ≡ Ok world → (result : Status) (verdict : Verdict) → Judged words shelf starter verdict → Told verdict out err result
-      → AnswersRun world sound.scene starter result ⊎ (result ≡ status.NoMemory)
+      → AnswersRun (how_asked words) world sound.scene starter result ⊎ (result ≡ status.NoMemory)
   answers_run world_law refusal_law world good result (read_fault file) judged told = absurd (no_read_fault file judged)
   answers_run world_law refusal_law world good result (refused fault) judged told = absurd (not_refused fault judged)
   answers_run world_law refusal_law world good result (manifest_refused refusal file) judged told =
@@ -102,8 +103,9 @@ module _ (words : List (List ℕ)) (shelf : ShelfChange) (starter : StarterChang
   answers_run world_law refusal_law world good result no_memory judged told = inr told.1.0
   answers_run world_law refusal_law world good result (ran end text lines) judged told =
       let same : judged.world ≡ world = ok_world judged.world world (sym (world_is world_law judged.scene judged.world judged.accepted judged.manifests) ∙ good) in
-      let run : IsTextOfRun world sound.scene starter end text lines =
-      subst (λ (w : WorldLists). IsTextOfRun w sound.scene starter end text lines) same (subst (λ (s : SceneValue). IsTextOfRun judged.world s starter end text lines) (scene_is judged.scene judged.accepted) judged.run) in
+      let how = how_asked words in
+      let run : IsTextOfRun how world sound.scene starter end text lines =
+      subst (λ (w : WorldLists). IsTextOfRun how w sound.scene starter end text lines) same (subst (λ (s : SceneValue). IsTextOfRun how judged.world s starter end text lines) (scene_is judged.scene judged.accepted) judged.run) in
       elim told [
         | inl h ↦ inl (record { end = end; text = text; lines = lines; run = run; answered = told_answer (answer_by end) lines err result sound.err_sound h.1 })
         | inr h ↦ absurd (sound.out_sound h.2)

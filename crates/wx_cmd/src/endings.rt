@@ -38,7 +38,8 @@ fn put_unless_left(
     c: ContextNo,
     name: &str,
 ) -> Result<(), AllocError>
-    ensures { OnOk result (lines.new.items ≡ lines.old.items ++ endings.stalled_unless (has_left (reverse entries.now) c) name.now) }
+    ensures { OnOk result (lines.new.items
+        ≡ lines.old.items ++ endings.stalled_unless (has_left (reverse entries.now) c) name.now) }
 {
     if has_left(entries, c) {
         Ok(())

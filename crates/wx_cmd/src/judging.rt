@@ -1,13 +1,14 @@
 //! What a call for a run answers before it writes: the scene is read, then its manifests in scene order, and then it is
 //! run.
-ghost use Rattle.std.specs.Prelude.{◌≡◌, ◌≤◌, List, ℕ, IfOk};
+ghost use Rattle.std.specs.Prelude.{◌≡◌, ◌≤◌, List, ℕ, IfOk, OnErr};
 ghost use Rattle.wx_outside.specs.Shelf.{content, present};
 ghost use Rattle.wx_words.specs.Words as forms;
 ghost use Rattle.wx_world.specs.Reading.{HasCause};
-ghost use Rattle.wx_status.specs.Changes.{ShelfChange};
+ghost use Rattle.wx_status.specs.Changes.{ShelfChange, over};
 ghost use Rattle.wx_cmd.specs.View.{verdict_view};
 ghost use Rattle.wx_cmd.specs.Starters.{StarterChange, IsUnusedUnlessRun};
 ghost use Rattle.wx_cmd.specs.Scenes as scenes;
+ghost use Rattle.wx_cmd.specs.Verdict as verdicts;
 ghost use Rattle.wx_cmd.specs.Judging.{ComesTo, SceneComesTo, IsRunJudged, IsReadFault};
 ghost use Rattle.wx_cmd.specs.Headline.{Judged};
 
@@ -19,7 +20,7 @@ use wx_host_launch::Starter;
 use wx_id::{NoMemory, Utf8Text};
 use wx_outside::{Found, Shelf, ShelfFault};
 use wx_run::run_scene;
-use wx_script::{Scene, SceneFault, SceneKind, SceneReadFault};
+use wx_script::{How, Scene, SceneFault, SceneKind, SceneReadFault};
 use wx_world::{WorldFault, name_at, read_world};
 
 /// What a run of the scene in this world comes to.
@@ -28,13 +29,15 @@ fn judge_run<P: Starter>(
     scene: &Scene,
     world: World,
     starter: &mut P,
+    how: How,
 ) -> Result<Verdict, NoMemory>
-    ensures judged { IfOk result (λ verdict. IsRunJudged world scene.now
-        (record { before = P.state starter.old; after = P.state starter.new })
+    ensures judged { IfOk result (λ verdict. IsRunJudged how world scene.now
+        (over (P.state starter.old) (P.state starter.new))
         (verdict_view verdict)) }
-    ensures unused { IfOk result (λ verdict. IsUnusedUnlessRun (verdict_view verdict) (record { before = P.state starter.old; after = P.state starter.new })) }
+    ensures unused { IfOk result (λ verdict.
+        IsUnusedUnlessRun (verdict_view verdict) (over (P.state starter.old) (P.state starter.new))) }
 {
-    let outcome = run_scene(alloc, scene, world, starter)?;
+    let outcome = run_scene(alloc, scene, world, starter, how)?;
     let text = outcome.journal.print(alloc)?;
     match lines_of_end(alloc, scene, &outcome.journal, outcome.end) {
         Ok(lines) => Ok(Verdict::Ran(outcome.end, text, lines)),
@@ -44,8 +47,9 @@ fn judge_run<P: Starter>(
 
 /// What a scene comes to whose manifests make no world.
 fn judge_fault(alloc: Global, scene: &Scene, fault: WorldFault) -> Result<Verdict, NoMemory>
-    ensures { IfOk result (λ verdict. (shelf : ShelfChange) (starter : StarterChange) → HasCause shelf.files scene.now shelf.faults_before shelf.faults_after fault
-        → SceneComesTo scene.now shelf starter (verdict_view verdict)) }
+    ensures { IfOk result (λ verdict. (how : How) (shelf : ShelfChange) (starter : StarterChange)
+        → HasCause shelf.files scene.now shelf.faults_before shelf.faults_after fault
+        → SceneComesTo how scene.now shelf starter (verdict_view verdict)) }
 {
     match fault {
         WorldFault::Refused(refusal) => {
@@ -66,16 +70,20 @@ fn judge_scene<F: Shelf, P: Starter>(
     scene: &Scene,
     shelf: &mut F,
     starter: &mut P,
+    how: How,
 ) -> Result<Verdict, NoMemory>
-    ensures judged { IfOk result (λ verdict. SceneComesTo scene.now
-        (record { files = F.files shelf.old; faults_before = F.faults shelf.old; faults_after = F.faults shelf.new })
-        (record { before = P.state starter.old; after = P.state starter.new })
+    ensures judged { IfOk result (λ verdict. SceneComesTo how scene.now
+        (over (F.state shelf.old) (F.state shelf.new)) (over (P.state starter.old) (P.state starter.new))
         (verdict_view verdict)) }
-    ensures unused { IfOk result (λ verdict. IsUnusedUnlessRun (verdict_view verdict) (record { before = P.state starter.old; after = P.state starter.new })) }
-    ensures unchanged { F.files shelf.new ≡ F.files shelf.old }
+    ensures no_memory { OnErr result (SceneComesTo how scene.now
+        (over (F.state shelf.old) (F.state shelf.new)) (over (P.state starter.old) (P.state starter.new))
+        verdicts.no_memory) }
+    ensures unused { IfOk result (λ verdict.
+        IsUnusedUnlessRun (verdict_view verdict) (over (P.state starter.old) (P.state starter.new))) }
+    ensures unchanged { (F.state shelf.new).files ≡ (F.state shelf.old).files }
 {
     match read_world(alloc, scene, shelf) {
-        Ok(world) => judge_run(alloc, scene, world, starter),
+        Ok(world) => judge_run(alloc, scene, world, starter, how),
         Err(fault) => judge_fault(alloc, scene, fault),
     }
 }
@@ -93,16 +101,16 @@ fn judge_bytes<F: Shelf, P: Starter>(
     bytes: &[u8],
     shelf: &mut F,
     starter: &mut P,
+    how: How,
 ) -> Verdict
-    ensures judged { ComesTo (present bytes.now)
-        (record { files = F.files shelf.old; faults_before = F.faults shelf.old; faults_after = F.faults shelf.new })
-        (record { before = P.state starter.old; after = P.state starter.new })
+    ensures judged { ComesTo how (present bytes.now)
+        (over (F.state shelf.old) (F.state shelf.new)) (over (P.state starter.old) (P.state starter.new))
         (verdict_view result) }
-    ensures unused { IsUnusedUnlessRun (verdict_view result) (record { before = P.state starter.old; after = P.state starter.new }) }
-    ensures unchanged { F.files shelf.new ≡ F.files shelf.old }
+    ensures unused { IsUnusedUnlessRun (verdict_view result) (over (P.state starter.old) (P.state starter.new)) }
+    ensures unchanged { (F.state shelf.new).files ≡ (F.state shelf.old).files }
 {
     match Scene::read(alloc, bytes) {
-        Ok(scene) => match judge_scene(alloc, &scene, shelf, starter) {
+        Ok(scene) => match judge_scene(alloc, &scene, shelf, starter, how) {
             Ok(verdict) => verdict,
             Err(NoMemory) => Verdict::NoMemory,
         },
@@ -117,16 +125,16 @@ fn judge_found<F: Shelf, P: Starter>(
     found: Found,
     shelf: &mut F,
     starter: &mut P,
+    how: How,
 ) -> Verdict
-    ensures judged { ComesTo (content found)
-        (record { files = F.files shelf.old; faults_before = F.faults shelf.old; faults_after = F.faults shelf.new })
-        (record { before = P.state starter.old; after = P.state starter.new })
+    ensures judged { ComesTo how (content found)
+        (over (F.state shelf.old) (F.state shelf.new)) (over (P.state starter.old) (P.state starter.new))
         (verdict_view result) }
-    ensures unused { IsUnusedUnlessRun (verdict_view result) (record { before = P.state starter.old; after = P.state starter.new }) }
-    ensures unchanged { F.files shelf.new ≡ F.files shelf.old }
+    ensures unused { IsUnusedUnlessRun (verdict_view result) (over (P.state starter.old) (P.state starter.new)) }
+    ensures unchanged { (F.state shelf.new).files ≡ (F.state shelf.old).files }
 {
     match found {
-        Found::Bytes(bytes) => judge_bytes(alloc, &bytes, shelf, starter),
+        Found::Bytes(bytes) => judge_bytes(alloc, &bytes, shelf, starter, how),
         Found::Missing => Verdict::Refused(refusal(SceneKind::Missing)),
         Found::Large => Verdict::Refused(refusal(SceneKind::Large)),
     }
@@ -148,16 +156,17 @@ pub fn judge<F: Shelf, P: Starter>(
     scene: &str,
     shelf: &mut F,
     starter: &mut P,
+    how: How,
 ) -> Verdict
-    ensures judged { (words : List (List ℕ)) → forms.scene_named words ≡ Some scene.now → Judged words
-        (record { files = F.files shelf.old; faults_before = F.faults shelf.old; faults_after = F.faults shelf.new })
-        (record { before = P.state starter.old; after = P.state starter.new })
+    ensures judged { (words : List (List ℕ)) → forms.scene_named words ≡ Some scene.now → forms.how_asked words ≡ how
+        → Judged words
+        (over (F.state shelf.old) (F.state shelf.new)) (over (P.state starter.old) (P.state starter.new))
         (verdict_view result) }
-    ensures unused { IsUnusedUnlessRun (verdict_view result) (record { before = P.state starter.old; after = P.state starter.new }) }
-    ensures unchanged { F.files shelf.new ≡ F.files shelf.old }
+    ensures unused { IsUnusedUnlessRun (verdict_view result) (over (P.state starter.old) (P.state starter.new)) }
+    ensures unchanged { (F.state shelf.new).files ≡ (F.state shelf.old).files }
 {
     match shelf.read(alloc, scene) {
-        Ok(found) => judge_found(alloc, found, shelf, starter),
+        Ok(found) => judge_found(alloc, found, shelf, starter, how),
         Err(ShelfFault::Failed) => read_fault(alloc, scene),
         Err(ShelfFault::NoMemory) => Verdict::NoMemory,
     }

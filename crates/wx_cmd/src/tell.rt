@@ -1,8 +1,10 @@
+//! How a verdict on a run is told.
 ghost use Rattle.std.specs.Prelude.{◌≡◌, ◌⊎◌};
 ghost use Rattle.wx_status.specs.declared.status.Status.TheVariants as status;
 ghost use Rattle.wx_cmd.specs.Told.{Told};
 ghost use Rattle.wx_cmd.specs.Verdict.{no_memory};
 ghost use Rattle.wx_cmd.specs.View.{verdict_view};
+ghost use Rattle.wx_status.specs.Changes.{over};
 
 use crate::endings::answer_by;
 use std::alloc::Global;
@@ -53,11 +55,9 @@ fn status_of_manifest(refusal: FileRefusal) -> Status
 /// Tells a verdict. Where there is no memory for its line, that is told in its place.
 pub fn tell<O: Sink, E: Sink>(alloc: Global, verdict: Verdict, out: &mut O, err: &mut E) -> Status
     ensures { Told (verdict_view verdict)
-        (record { before = O.written out.old; after = O.written out.new; faults_before = O.faults out.old; faults_after = O.faults out.new })
-        (record { before = E.written err.old; after = E.written err.new; faults_before = E.faults err.old; faults_after = E.faults err.new }) result
+        (over (O.state out.old) (O.state out.new)) (over (E.state err.old) (E.state err.new)) result
         ⊎ Told no_memory
-        (record { before = O.written out.old; after = O.written out.new; faults_before = O.faults out.old; faults_after = O.faults out.new })
-        (record { before = E.written err.old; after = E.written err.new; faults_before = E.faults err.old; faults_after = E.faults err.new }) result }
+        (over (O.state out.old) (O.state out.new)) (over (E.state err.old) (E.state err.new)) result }
 {
     match verdict {
         Verdict::ReadFault(file) => match read_fault_line(alloc, file.as_str()) {

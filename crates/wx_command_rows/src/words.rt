@@ -2,7 +2,7 @@
 
 use crate::helpers::owned;
 use std::test::Fail;
-use wx_words::{PlainCommand, plain_command, scene_named};
+use wx_words::{How, PlainCommand, how_asked, plain_command, scene_named};
 
 /// Words, and the scene of the run that they ask for.
 const RUNS: [(&[&str], Option<&str>); 20] = [
@@ -37,8 +37,25 @@ fn runs(rt: HostRuntime) -> Result<(), Fail> {
     Ok(())
 }
 
+/// Words of runs, and how they ask for it.
+const WAYS: [(&[&str], How); 4] = [
+    (&["run", "s"], How::Threads),
+    (&["run", "--rounds", "s"], How::Rounds),
+    (&["run", "s", "--rounds"], How::Rounds),
+    (&["run", "-"], How::Threads),
+];
+
+#[test]
+fn ways_of_runs(rt: HostRuntime) -> Result<(), Fail> {
+    for (words, how) in WAYS.iter() {
+        let words = owned(rt.alloc(), words)?;
+        assert!(rt; how_asked(&words) == *how, "{words:?}");
+    }
+    Ok(())
+}
+
 /// Words, and the command that makes no run which they ask for.
-const PLAIN_COMMANDS: [(&[&str], Option<PlainCommand>); 19] = [
+const PLAIN_COMMANDS: [(&[&str], Option<PlainCommand>); 31] = [
     (
         &["match", "a", "b"],
         Some(PlainCommand::Match {
@@ -68,7 +85,22 @@ const PLAIN_COMMANDS: [(&[&str], Option<PlainCommand>); 19] = [
     (&["frames"], None),
     (&["frames", "f", "g"], None),
     (&["frames", "--version"], None),
-    (&["--help"], None),
+    (&["--help"], Some(PlainCommand::Help)),
+    (&["-h"], Some(PlainCommand::Help)),
+    (&["help"], Some(PlainCommand::Help)),
+    (&["--version"], Some(PlainCommand::Version)),
+    (&["-V"], None),
+    (&["version"], None),
+    (&["-"], None),
+    (&["--help", "match"], None),
+    (&["--help", "--version"], None),
+    (&["help", "run"], None),
+    (&["match", "--help"], None),
+    (&["report", "-h"], None),
+    (
+        &["frames", "help"],
+        Some(PlainCommand::Frames { file: "help" }),
+    ),
     (&["run", "s"], None),
 ];
 

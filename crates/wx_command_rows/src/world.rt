@@ -20,13 +20,11 @@ const EXTENSION: &str =
 const HOST: &str =
     r#"{"name":"e","description":"d","path":"/bin/echo","type":"stdio","allowed_origins":[]}"#;
 
-const FILES: [(&str, &str); 2] = [("x.json", EXTENSION), ("m/e.json", HOST)];
-
 #[test]
 fn world_of_two_files(rt: HostRuntime) -> Result<(), Fail> {
     let alloc = rt.alloc();
     let scene = Scene::read(alloc, SCENE)?;
-    let mut shelf = shelf_of(alloc, &FILES)?;
+    let mut shelf = shelf_of(alloc, &[("m/e.json", HOST), ("x.json", EXTENSION)])?;
     let world = read_world(alloc, &scene, &mut shelf)?;
     let with = ExtensionId::read(b"aaaaaaaaaaaaaaaaaaaaaaaaaaaaaaaa")?;
     let without = ExtensionId::read(b"bbbbbbbbbbbbbbbbbbbbbbbbbbbbbbbb")?;
@@ -47,12 +45,17 @@ const SECOND_MISSING: WorldFault = WorldFault::Refused(FileRefusal {
     kind: FileKind::Missing,
 });
 
-/// How many of the files are there, the read that fails; the fault, and how many reads were made.
-const FAULTS: [(usize, Option<u64>, WorldFault, u64); 4] = [
-    (0, None, FIRST_MISSING, 1),
-    (0, Some(0), WorldFault::ReadFailed(0), 1),
-    (1, None, SECOND_MISSING, 2),
-    (2, Some(1), WorldFault::ReadFailed(1), 2),
+/// The files, the read that fails; the fault, and how many reads were made.
+const FAULTS: [(&[(&str, &str)], Option<u64>, WorldFault, u64); 4] = [
+    (&[], None, FIRST_MISSING, 1),
+    (&[], Some(0), WorldFault::ReadFailed(0), 1),
+    (&[("x.json", EXTENSION)], None, SECOND_MISSING, 2),
+    (
+        &[("x.json", EXTENSION), ("m/e.json", HOST)],
+        Some(1),
+        WorldFault::ReadFailed(1),
+        2,
+    ),
 ];
 
 /// The first refusal or failed read ends it, and names its file by its place.
@@ -62,8 +65,8 @@ fn first_fault(rt: HostRuntime) -> Result<(), Fail> {
     let scene = Scene::read(alloc, SCENE)?;
     assert_eq!(rt; name_at(&scene, 0), "x.json");
     assert_eq!(rt; name_at(&scene, 1), "m/e.json");
-    for (count, fails, fault, reads) in FAULTS.iter() {
-        let mut shelf = shelf_of(alloc, &FILES[..*count])?;
+    for (files, fails, fault, reads) in FAULTS.iter() {
+        let mut shelf = shelf_of(alloc, files)?;
         if let Some(read) = fails {
             shelf.fails_at.push(*read)?;
         }

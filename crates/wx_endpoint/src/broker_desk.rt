@@ -1,21 +1,30 @@
+//! The desk of an endpoint over a broker that nobody else has.
 use crate::desk::Desk;
-use wx_broker::Broker;
 use wx_context::{Listens, Target};
-use wx_id::{ChannelNo, ContextNo, EntryNo, NoMemory, RequestNo, Utf8Text};
+use wx_desk::BrokerDesk;
+use wx_id::{ChannelNo, EntryNo, NoMemory, RequestNo, Utf8Text};
 use wx_machine::{Answer, JsonText};
 
-/// The desk of the endpoint that is context `context`, over a broker that nobody else has: its own entries are those
-/// of that context.
-#[derive(Drop)]
-pub struct BrokerDesk {
-    pub broker: Broker,
-    pub context: ContextNo,
-}
-
 impl Desk for BrokerDesk {
-    ghost use Rattle.wx_endpoint.specs.BrokerDesks.{desk_over};
+    ghost use Rattle.std.specs.Prelude.{Some, false, []};
+    ghost use Rattle.wx_machine.specs.declared.entries.Who.TheVariants as Who;
+    ghost use Rattle.wx_desk.specs.BrokerDesks.{desk_over};
 
-    ghost state = { λ desk. desk_over desk.context desk.broker };
+    ghost state = { λ desk. desk_over Who.Context desk.context desk.broker };
+
+    ghost steps = { λ desk. 3 };
+
+    ghost told = { λ desk. Some false };
+
+    ghost key = { λ desk. [] };
+
+    fn left(&self) -> u64 {
+        3
+    }
+
+    fn stopped(&mut self) -> bool {
+        false
+    }
 
     fn listen(&mut self, l: Listens) -> Result<Answer, NoMemory> {
         self.broker.listen(self.context, l)

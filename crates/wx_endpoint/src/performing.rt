@@ -1,8 +1,9 @@
-ghost use Rattle.std.specs.Prelude.{◌≡◌, IfOk, OnErr, MatchOption};
+//! What a step of an endpoint does at its desk.
+ghost use Rattle.std.specs.Prelude.{◌≡◌, ◌+◌, ◌<◌, ◌≤◌, IfOk, OnErr, MatchOption};
 ghost use Rattle.wx_machine.specs.declared.entries.Call.TheVariants as Call;
 ghost use Rattle.wx_script.specs.Places as places;
 ghost use Rattle.wx_endpoint.specs.Asked.{whole_call, begun_by};
-ghost use Rattle.wx_endpoint.specs.Steps.{IsSound, MakesNone, MakesOne, past_of};
+ghost use Rattle.wx_desk.specs.Desks.{IsSound, MakesNone, MakesOne, past_of};
 ghost use Rattle.wx_endpoint.specs.Performed.{MakesNext, WaitsNext, CarriesText, HasText};
 
 use crate::asked::{AskedCall, Begins};
@@ -14,10 +15,15 @@ use wx_script::Heard;
 
 /// One `connect` with a copy of the name.
 fn connect<D: Desk>(desk: &mut D, target: Target, name: &Utf8Text) -> Result<Answer, NoMemory>
-    requires { IsSound (D.state desk.old) }
-    ensures made { IfOk result (λ answer. MakesOne (D.state desk.old) (D.state desk.new) (Call.Connect target name.now) answer) }
+    requires sound { IsSound (D.state desk.old) }
+    requires step { 0 < D.steps desk.old }
+    ensures made { IfOk result (λ answer.
+        MakesOne (D.state desk.old) (D.state desk.new) (Call.Connect target name.now) answer) }
     ensures refused { OnErr result (MakesNone (D.state desk.old) (D.state desk.new)) }
     ensures sound { IsSound (D.state desk.new) }
+    ensures one_step { D.steps desk.old ≤ D.steps desk.new + 1 }
+    ensures same_told { D.told desk.new ≡ D.told desk.old }
+    ensures same_key { D.key desk.new ≡ D.key desk.old }
 {
     match desk.connect(target, name.try_clone()?) {
         Ok(answer) => Ok(answer),
@@ -27,10 +33,14 @@ fn connect<D: Desk>(desk: &mut D, target: Target, name: &Utf8Text) -> Result<Ans
 
 /// One `post`. The text is let go where memory was refused.
 fn post_text<D: Desk>(desk: &mut D, k: ChannelNo, text: JsonText) -> Result<Answer, NoMemory>
-    requires { IsSound (D.state desk.old) }
+    requires sound { IsSound (D.state desk.old) }
+    requires step { 0 < D.steps desk.old }
     ensures made { IfOk result (λ answer. MakesOne (D.state desk.old) (D.state desk.new) (Call.Post k text) answer) }
     ensures refused { OnErr result (MakesNone (D.state desk.old) (D.state desk.new)) }
     ensures sound { IsSound (D.state desk.new) }
+    ensures one_step { D.steps desk.old ≤ D.steps desk.new + 1 }
+    ensures same_told { D.told desk.new ≡ D.told desk.old }
+    ensures same_key { D.key desk.new ≡ D.key desk.old }
 {
     match desk.post(k, text) {
         Ok(answer) => Ok(answer),
@@ -40,10 +50,15 @@ fn post_text<D: Desk>(desk: &mut D, k: ChannelNo, text: JsonText) -> Result<Answ
 
 /// One `send` with a copy of the text.
 fn send<D: Desk>(desk: &mut D, target: Target, text: &JsonText) -> Result<Answer, NoMemory>
-    requires { IsSound (D.state desk.old) }
-    ensures made { IfOk result (λ answer. MakesOne (D.state desk.old) (D.state desk.new) (Call.Send target text.now) answer) }
+    requires sound { IsSound (D.state desk.old) }
+    requires step { 0 < D.steps desk.old }
+    ensures made { IfOk result (λ answer.
+        MakesOne (D.state desk.old) (D.state desk.new) (Call.Send target text.now) answer) }
     ensures refused { OnErr result (MakesNone (D.state desk.old) (D.state desk.new)) }
     ensures sound { IsSound (D.state desk.new) }
+    ensures one_step { D.steps desk.old ≤ D.steps desk.new + 1 }
+    ensures same_told { D.told desk.new ≡ D.told desk.old }
+    ensures same_key { D.key desk.new ≡ D.key desk.old }
 {
     match desk.send(target, text.try_clone()?) {
         Ok(answer) => Ok(answer),
@@ -53,10 +68,14 @@ fn send<D: Desk>(desk: &mut D, target: Target, text: &JsonText) -> Result<Answer
 
 /// One `reply`. The text is let go where memory was refused.
 fn reply_text<D: Desk>(desk: &mut D, r: RequestNo, text: JsonText) -> Result<Answer, NoMemory>
-    requires { IsSound (D.state desk.old) }
+    requires sound { IsSound (D.state desk.old) }
+    requires step { 0 < D.steps desk.old }
     ensures made { IfOk result (λ answer. MakesOne (D.state desk.old) (D.state desk.new) (Call.Reply r text) answer) }
     ensures refused { OnErr result (MakesNone (D.state desk.old) (D.state desk.new)) }
     ensures sound { IsSound (D.state desk.new) }
+    ensures one_step { D.steps desk.old ≤ D.steps desk.new + 1 }
+    ensures same_told { D.told desk.new ≡ D.told desk.old }
+    ensures same_key { D.key desk.new ≡ D.key desk.old }
 {
     match desk.reply(r, text) {
         Ok(answer) => Ok(answer),
@@ -66,10 +85,15 @@ fn reply_text<D: Desk>(desk: &mut D, r: RequestNo, text: JsonText) -> Result<Ans
 
 /// One `connect_native` with a copy of the name.
 fn connect_native<D: Desk>(desk: &mut D, name: &Utf8Text) -> Result<Answer, NoMemory>
-    requires { IsSound (D.state desk.old) }
-    ensures made { IfOk result (λ answer. MakesOne (D.state desk.old) (D.state desk.new) (Call.ConnectNative name.now) answer) }
+    requires sound { IsSound (D.state desk.old) }
+    requires step { 0 < D.steps desk.old }
+    ensures made { IfOk result (λ answer.
+        MakesOne (D.state desk.old) (D.state desk.new) (Call.ConnectNative name.now) answer) }
     ensures refused { OnErr result (MakesNone (D.state desk.old) (D.state desk.new)) }
     ensures sound { IsSound (D.state desk.new) }
+    ensures one_step { D.steps desk.old ≤ D.steps desk.new + 1 }
+    ensures same_told { D.told desk.new ≡ D.told desk.old }
+    ensures same_key { D.key desk.new ≡ D.key desk.old }
 {
     match desk.connect_native(name.try_clone()?) {
         Ok(answer) => Ok(answer),
@@ -79,10 +103,15 @@ fn connect_native<D: Desk>(desk: &mut D, name: &Utf8Text) -> Result<Answer, NoMe
 
 /// One `send_native` with copies of the name and the text.
 fn send_native<D: Desk>(desk: &mut D, name: &Utf8Text, text: &JsonText) -> Result<Answer, NoMemory>
-    requires { IsSound (D.state desk.old) }
-    ensures made { IfOk result (λ answer. MakesOne (D.state desk.old) (D.state desk.new) (Call.SendNative name.now text.now) answer) }
+    requires sound { IsSound (D.state desk.old) }
+    requires step { 0 < D.steps desk.old }
+    ensures made { IfOk result (λ answer.
+        MakesOne (D.state desk.old) (D.state desk.new) (Call.SendNative name.now text.now) answer) }
     ensures refused { OnErr result (MakesNone (D.state desk.old) (D.state desk.new)) }
     ensures sound { IsSound (D.state desk.new) }
+    ensures one_step { D.steps desk.old ≤ D.steps desk.new + 1 }
+    ensures same_told { D.told desk.new ≡ D.told desk.old }
+    ensures same_key { D.key desk.new ≡ D.key desk.old }
 {
     let name = name.try_clone()?;
     match desk.send_native(name, text.try_clone()?) {
@@ -93,10 +122,15 @@ fn send_native<D: Desk>(desk: &mut D, name: &Utf8Text, text: &JsonText) -> Resul
 
 /// Makes the call.
 fn make<D: Desk>(desk: &mut D, call: AskedCall<'_>) -> Result<Answer, NoMemory>
-    requires { IsSound (D.state desk.old) }
-    ensures made { IfOk result (λ answer. MakesOne (D.state desk.old) (D.state desk.new) (whole_call call.entry) answer) }
+    requires sound { IsSound (D.state desk.old) }
+    requires step { 0 < D.steps desk.old }
+    ensures made { IfOk result (λ answer.
+        MakesOne (D.state desk.old) (D.state desk.new) (whole_call call.entry) answer) }
     ensures refused { OnErr result (MakesNone (D.state desk.old) (D.state desk.new)) }
     ensures sound { IsSound (D.state desk.new) }
+    ensures one_step { D.steps desk.old ≤ D.steps desk.new + 1 }
+    ensures same_told { D.told desk.new ≡ D.told desk.old }
+    ensures same_key { D.key desk.new ≡ D.key desk.old }
 {
     match call {
         AskedCall::Listen(l) => desk.listen(l),
@@ -115,10 +149,15 @@ fn make<D: Desk>(desk: &mut D, call: AskedCall<'_>) -> Result<Answer, NoMemory>
 
 /// Answers what came by this text.
 fn answer_by_text<D: Desk>(desk: &mut D, came: Heard, text: JsonText) -> Result<Answer, NoMemory>
-    requires { IsSound (D.state desk.old) }
-    ensures made { IfOk result (λ answer. MakesOne (D.state desk.old) (D.state desk.new) (places.answer_by came text) answer) }
+    requires sound { IsSound (D.state desk.old) }
+    requires step { 0 < D.steps desk.old }
+    ensures made { IfOk result (λ answer.
+        MakesOne (D.state desk.old) (D.state desk.new) (places.answer_by came text) answer) }
     ensures refused { OnErr result (MakesNone (D.state desk.old) (D.state desk.new)) }
     ensures sound { IsSound (D.state desk.new) }
+    ensures one_step { D.steps desk.old ≤ D.steps desk.new + 1 }
+    ensures same_told { D.told desk.new ≡ D.told desk.old }
+    ensures same_key { D.key desk.new ≡ D.key desk.old }
 {
     match came {
         Heard::Message(k) => post_text(desk, k, text),
@@ -129,10 +168,15 @@ fn answer_by_text<D: Desk>(desk: &mut D, came: Heard, text: JsonText) -> Result<
 /// Answers what came by the text that an entry carries.
 fn answer_by_entry<D: Desk>(desk: &mut D, came: Heard, e: EntryNo) -> Result<Answer, NoMemory>
     requires sound { IsSound (D.state desk.old) }
+    requires steps { 2 ≤ D.steps desk.old }
     requires text { CarriesText (past_of (D.state desk.old)) e }
-    ensures made { IfOk result (λ answer. MakesNext (D.state desk.old) (D.state desk.new) (places.answers came e) answer) }
+    ensures made { IfOk result (λ answer.
+        MakesNext (D.state desk.old) (D.state desk.new) (places.answers came e) answer) }
     ensures refused { OnErr result (MakesNone (D.state desk.old) (D.state desk.new)) }
     ensures sound { IsSound (D.state desk.new) }
+    ensures two_steps { D.steps desk.old ≤ D.steps desk.new + 2 }
+    ensures same_told { D.told desk.new ≡ D.told desk.old }
+    ensures same_key { D.key desk.new ≡ D.key desk.old }
 {
     let copy = desk.copy_of(e)?;
     let Some(text) = copy else {
@@ -144,11 +188,16 @@ fn answer_by_entry<D: Desk>(desk: &mut D, came: Heard, e: EntryNo) -> Result<Ans
 /// Makes the entry that begins so, or none where it waits and nothing is pending.
 pub(crate) fn perform<D: Desk>(desk: &mut D, begins: Begins<'_>) -> Result<Option<Answer>, NoMemory>
     requires sound { IsSound (D.state desk.old) }
+    requires steps { 2 ≤ D.steps desk.old }
     requires text { HasText (past_of (D.state desk.old)) (begun_by begins) }
-    ensures made { IfOk result (λ found. MatchOption found (WaitsNext (D.state desk.old) (D.state desk.new) (begun_by begins.entry))
+    ensures made { IfOk result (λ found. MatchOption found
+        (WaitsNext (D.state desk.old) (D.state desk.new) (begun_by begins.entry))
         (λ answer. MakesNext (D.state desk.old) (D.state desk.new) (begun_by begins.entry) answer)) }
     ensures refused { OnErr result (MakesNone (D.state desk.old) (D.state desk.new)) }
     ensures sound { IsSound (D.state desk.new) }
+    ensures two_steps { D.steps desk.old ≤ D.steps desk.new + 2 }
+    ensures same_told { D.told desk.new ≡ D.told desk.old }
+    ensures same_key { D.key desk.new ≡ D.key desk.old }
 {
     match begins {
         Begins::Call(call) => Ok(Some(make(desk, call)?)),

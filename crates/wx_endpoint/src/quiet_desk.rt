@@ -1,3 +1,4 @@
+//! A desk of tests for a page that does nothing but take.
 use crate::desk::Desk;
 use wx_context::{Listens, Target};
 use wx_id::{ChannelNo, EntryNo, NoMemory, RequestNo, Utf8Text};
@@ -11,9 +12,24 @@ pub(crate) struct QuietDesk {
 }
 
 impl Desk for QuietDesk {
+    ghost use Rattle.std.specs.Prelude.{Some, false, []};
     ghost use Rattle.wx_endpoint.specs.QuietDesks.{quiet_desk};
 
     ghost state = { λ desk. quiet_desk desk.takes };
+
+    ghost steps = { λ desk. 3 };
+
+    ghost told = { λ desk. Some false };
+
+    ghost key = { λ desk. [] };
+
+    fn left(&self) -> u64 {
+        3
+    }
+
+    fn stopped(&mut self) -> bool {
+        false
+    }
 
     fn listen(&mut self, _l: Listens) -> Result<Answer, NoMemory> {
         Err(NoMemory)

@@ -1,5 +1,6 @@
-ghost use Rattle.std.specs.Prelude.{◌≡◌};
-ghost use Rattle.wx_endpoint.specs.Steps.{IsSound};
+//! One turn of an endpoint.
+ghost use Rattle.std.specs.Prelude.{◌≡◌, ◌+◌, ◌≤◌};
+ghost use Rattle.wx_desk.specs.Desks.{IsSound};
 ghost use Rattle.wx_endpoint.specs.Turn.{StandsBehind, IsTurn};
 
 use crate::cursor::{Cursor, Turned};
@@ -11,11 +12,15 @@ use wx_id::NoMemory;
 /// nothing.
 pub fn turn<D: Desk>(cursor: &mut Cursor<'_>, desk: &mut D) -> Turned
     requires sound { IsSound (D.state desk.old) }
+    requires steps { 3 ≤ D.steps desk.old }
     requires behind { StandsBehind cursor.old (D.state desk.old) }
     ensures turn { IsTurn cursor.old cursor.new (D.state desk.old) (D.state desk.new) result }
     ensures behind { StandsBehind cursor.new (D.state desk.new) }
     ensures sound { IsSound (D.state desk.new) }
     ensures same_script { cursor.new.script ≡ cursor.old.script }
+    ensures three_steps { D.steps desk.old ≤ D.steps desk.new + 3 }
+    ensures same_told { D.told desk.new ≡ D.told desk.old }
+    ensures same_key { D.key desk.new ≡ D.key desk.old }
 {
     let Some(step) = cursor.step() else {
         return Turned::Ended;

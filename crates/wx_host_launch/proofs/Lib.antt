@@ -5,3 +5,6 @@ pub mod ClosedLemmas
 pub mod StepLemmas
 pub mod TurnLemmas
 pub mod DeskLemmas
+pub mod BrokerLemmas
+pub mod KeepsLemmas
+pub mod KeptLemmas

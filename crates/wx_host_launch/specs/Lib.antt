@@ -1,6 +1,5 @@
 pub mod Pipes
 pub mod Records
-pub mod History
 pub mod Steps
 pub mod Reading
 pub mod Halves

@@ -2,6 +2,7 @@
 //! desk and the pipe; here is one turn of each.
 #![tactic(auto)]
 
+mod broker_desk;
 mod children;
 mod desk;
 mod memory;

@@ -1,3 +1,4 @@
+//! A desk of tests, for one host and one text.
 ghost use Rattle.std.specs.Prelude.{◌≡◌, true};
 ghost use Rattle.wx_host_launch.specs.TestDesks.{one};
 
@@ -5,7 +6,7 @@ use crate::desk::HostDesk;
 use wx_id::{EntryNo, NoMemory};
 use wx_machine::{Answer, JsonText, Reason};
 
-/// What stands in the journal behind the start of the host, until it ends.
+/// What stands in the journal after the start of the host, until it ends.
 #[derive(Clone, Copy, Debug, PartialEq, Eq)]
 pub enum Stage {
     /// Nothing.
@@ -20,7 +21,7 @@ pub enum Stage {
     Closed,
     /// The host was told so.
     Told,
-    /// The host said a text behind that.
+    /// The host said a text after that.
     SaidClosed,
 }
 
@@ -38,15 +39,40 @@ pub struct TestDesk {
     pub text: JsonText,
     pub stage: Stage,
     pub ended: Option<Reason>,
+    /// What it last answered to whether to stop.
+    pub told: Option<bool>,
     ghost posted: { text ≡ one },
 }
 
 impl HostDesk for TestDesk {
-    ghost use Rattle.wx_host_launch.specs.TestDesks.{desk_at};
+    ghost use Rattle.std.specs.Prelude.{[], false, is_some, ◌≡◌};
+    ghost use Rattle.wx_machine.specs.Texts.{has_ended};
+    ghost use Rattle.wx_host_launch.specs.TestDesks.{desk_at, lent_at};
 
     ghost state = { λ desk. desk_at desk.stage desk.ended };
 
-    #[tactic(auto, using(crate::proofs::DeskLemmas::takes_text, crate::proofs::DeskLemmas::takes_end, crate::proofs::DeskLemmas::finds_nothing, crate::proofs::DeskLemmas::desk_sound, crate::proofs::DeskLemmas::desk_stays))]
+    ghost lent = { λ desk. lent_at desk.stage };
+
+    ghost steps = { λ desk. 3 };
+
+    ghost told = { λ desk. desk.told };
+
+    ghost key = { λ desk. [] };
+
+    ghost going = { λ h past. has_ended past h ≡ false };
+
+    fn left(&self) -> u64 {
+        3
+    }
+
+    #[tactic(auto, using(crate::proofs::DeskLemmas::desk_sound, wx_desk::proofs::HistoryLemmas::makes_none, crate::proofs::DeskLemmas::goes_on))]
+    fn stopped(&mut self) -> bool {
+        let stop = self.ended.is_some();
+        self.told = Some(stop);
+        stop
+    }
+
+    #[tactic(auto, using(crate::proofs::DeskLemmas::takes_text, crate::proofs::DeskLemmas::takes_end, crate::proofs::DeskLemmas::finds_nothing, crate::proofs::DeskLemmas::desk_sound, wx_desk::proofs::HistoryLemmas::makes_none))]
     fn host_next(&mut self) -> Result<Option<Answer>, NoMemory> {
         if self.ended.is_some() {
             return Err(NoMemory);
@@ -72,12 +98,12 @@ impl HostDesk for TestDesk {
         }
     }
 
-    #[tactic(auto, using(crate::proofs::DeskLemmas::desk_sound, crate::proofs::DeskLemmas::desk_stays))]
+    #[tactic(auto, using(crate::proofs::DeskLemmas::desk_sound, wx_desk::proofs::HistoryLemmas::makes_none))]
     fn said_closed(&mut self) -> bool {
         matches!(self.stage, Stage::SaidClosed)
     }
 
-    #[tactic(auto, using(crate::proofs::DeskLemmas::desk_sound, crate::proofs::DeskLemmas::desk_stays, crate::proofs::DeskLemmas::says_idle, crate::proofs::DeskLemmas::says_told))]
+    #[tactic(auto, using(crate::proofs::DeskLemmas::desk_sound, wx_desk::proofs::HistoryLemmas::makes_none, crate::proofs::DeskLemmas::says_idle, crate::proofs::DeskLemmas::says_told))]
     fn host_said(&mut self, text: JsonText) -> Result<Answer, JsonText> {
         if self.ended.is_some() || !is_one(&text) {
             return Err(text);
@@ -95,7 +121,7 @@ impl HostDesk for TestDesk {
         }
     }
 
-    #[tactic(auto, using(crate::proofs::DeskLemmas::desk_sound, crate::proofs::DeskLemmas::desk_stays, crate::proofs::DeskLemmas::ends_open))]
+    #[tactic(auto, using(crate::proofs::DeskLemmas::desk_sound, wx_desk::proofs::HistoryLemmas::makes_none, crate::proofs::DeskLemmas::ends_open))]
     fn host_ended(&mut self, reason: Reason) -> Result<Answer, NoMemory> {
         if self.ended.is_some() {
             return Err(NoMemory);
@@ -104,7 +130,7 @@ impl HostDesk for TestDesk {
         Ok(Answer::Done)
     }
 
-    #[tactic(auto, using(crate::proofs::DeskLemmas::desk_sound, crate::proofs::DeskLemmas::desk_stays, crate::proofs::DeskLemmas::ends_quiet))]
+    #[tactic(auto, using(crate::proofs::DeskLemmas::desk_sound, wx_desk::proofs::HistoryLemmas::makes_none, crate::proofs::DeskLemmas::ends_quiet))]
     fn host_ends(&mut self, reason: Reason) -> Result<Option<Answer>, NoMemory> {
         if self.ended.is_some() {
             return Err(NoMemory);

@@ -1,5 +1,5 @@
 ghost use Rattle.std.specs.Prelude.{IfSome};
-ghost use Rattle.wx_host_launch.specs.Steps.{IsSound};
+ghost use Rattle.wx_desk.specs.Desks.{IsSound};
 ghost use Rattle.wx_host_launch.specs.TestDesks.{desk_at as state_at};
 
 use crate::test_desk::{Stage, TestDesk};
@@ -158,6 +158,7 @@ fn desk_at(alloc: Global, stage: Stage) -> Option<TestDesk>
         text,
         stage,
         ended: None,
+        told: None,
     })
 }
 

@@ -1,8 +1,10 @@
-ghost use Rattle.std.specs.Prelude.{◌≡◌, ◌≤◌, true, length, Some};
+//! One turn of each of a host's pumps.
+ghost use Rattle.std.specs.Prelude.{◌≡◌, ◌<◌, ◌≤◌, true, length, Some};
 ghost use Rattle.wx_machine.specs.declared.entries.TheConstants.{LONGEST, LONGEST_SAID};
 ghost use Rattle.wx_machine.specs.Carried as carried;
 ghost use Rattle.wx_machine.specs.declared.entries.Answer.TheVariants as Answer;
-ghost use Rattle.wx_host_launch.specs.Steps.{DeskState, IsSound, TakesNews, past_of};
+ghost use Rattle.wx_desk.specs.Desks.{HostDeskState, IsSound, past_of};
+ghost use Rattle.wx_host_launch.specs.Steps.{TakesNews};
 ghost use Rattle.wx_host_launch.specs.Halves.{last_said_closed};
 ghost use Rattle.wx_host_launch.specs.Turns.{IsInTurn, IsOutTurn, IsClosedTurn, Says, EndsOrWaits};
 
@@ -47,7 +49,8 @@ pub enum OutTurn {
 /// The text that the last take named.
 fn lent_text<'d, D: HostDesk>(desk: &'d D, e: EntryNo) -> &'d JsonText
     requires sound { IsSound (D.state desk.now) }
-    requires taken { (start : DeskState) × TakesNews start (D.state desk.now) (Answer.Text e) }
+    requires lent { D.lent desk.now ≡ Some e }
+    requires taken { (start : HostDeskState) × TakesNews start (D.state desk.now) (Answer.Text e) }
     ensures carried { carried.text_of (past_of (D.state desk.now)) e ≡ Some result.now }
     ensures short { length result.now ≤ LONGEST }
 {
@@ -60,10 +63,15 @@ fn lent_text<'d, D: HostDesk>(desk: &'d D, e: EntryNo) -> &'d JsonText
 /// Sends the text that the last take named. Where that fails the host ends.
 fn pass_on<D: HostDesk, I: HostIn>(desk: &mut D, input: &mut I, e: EntryNo) -> InTurn
     requires sound { IsSound (D.state desk.old) }
-    requires taken { (start : DeskState) × TakesNews start (D.state desk.old) (Answer.Text e) }
-    ensures turn { (start : DeskState) → TakesNews start (D.state desk.old) (Answer.Text e) →
+    requires step { 0 < D.steps desk.old }
+    requires lent { D.lent desk.old ≡ Some e }
+    requires taken { (start : HostDeskState) × TakesNews start (D.state desk.old) (Answer.Text e) }
+    ensures turn { (start : HostDeskState) → TakesNews start (D.state desk.old) (Answer.Text e) →
         IsInTurn start (D.state desk.new) (I.state input.old) (I.state input.new) result }
     ensures sound { IsSound (D.state desk.new) }
+    ensures same_told { D.told desk.new ≡ D.told desk.old }
+    ensures same_key { D.key desk.new ≡ D.key desk.old }
+    ensures later { (I.state input.old).faults ≤ (I.state input.new).faults }
 {
     match send(input, lent_text(desk, e)) {
         Ok(()) => InTurn::Moved,
@@ -76,9 +84,13 @@ fn pass_on<D: HostDesk, I: HostIn>(desk: &mut D, input: &mut I, e: EntryNo) -> I
 
 /// One turn of a host's input: the next text for the host is taken and sent, where there is one.
 pub fn in_turn<D: HostDesk, I: HostIn>(desk: &mut D, input: &mut I) -> InTurn
-    requires { IsSound (D.state desk.old) }
+    requires sound { IsSound (D.state desk.old) }
+    requires steps { 3 ≤ D.steps desk.old }
     ensures turn { IsInTurn (D.state desk.old) (D.state desk.new) (I.state input.old) (I.state input.new) result }
     ensures sound { IsSound (D.state desk.new) }
+    ensures same_told { D.told desk.new ≡ D.told desk.old }
+    ensures same_key { D.key desk.new ≡ D.key desk.old }
+    ensures later { (I.state input.old).faults ≤ (I.state input.new).faults }
 {
     match desk.host_next() {
         Ok(Some(Answer::Text(e))) => pass_on(desk, input, e),
@@ -95,9 +107,12 @@ pub fn in_turn<D: HostDesk, I: HostIn>(desk: &mut D, input: &mut I) -> InTurn
 /// The host says a text.
 fn say<D: HostDesk>(desk: &mut D, text: JsonText) -> OutTurn
     requires sound { IsSound (D.state desk.old) }
+    requires step { 0 < D.steps desk.old }
     requires short { length text ≤ LONGEST_SAID }
     ensures said { Says (D.state desk.old) (D.state desk.new) text result }
     ensures sound { IsSound (D.state desk.new) }
+    ensures same_told { D.told desk.new ≡ D.told desk.old }
+    ensures same_key { D.key desk.new ≡ D.key desk.old }
 {
     match desk.host_said(text) {
         Ok(_) => OutTurn::Moved,
@@ -107,9 +122,12 @@ fn say<D: HostDesk>(desk: &mut D, text: JsonText) -> OutTurn
 
 /// The host ends for this reason, unless there is a text for it to take.
 fn end<D: HostDesk>(desk: &mut D, reason: Reason) -> OutTurn
-    requires { IsSound (D.state desk.old) }
+    requires sound { IsSound (D.state desk.old) }
+    requires step { 0 < D.steps desk.old }
     ensures ended { EndsOrWaits (D.state desk.old) (D.state desk.new) reason result }
     ensures sound { IsSound (D.state desk.new) }
+    ensures same_told { D.told desk.new ≡ D.told desk.old }
+    ensures same_key { D.key desk.new ≡ D.key desk.old }
 {
     match desk.host_ends(reason) {
         Ok(Some(_)) => OutTurn::Ended,
@@ -126,12 +144,18 @@ pub fn out_turn<D: HostDesk, O: HostOut>(
     output: &mut O,
 ) -> OutTurn
     requires sound { IsSound (D.state desk.old) }
+    requires steps { 3 ≤ D.steps desk.old }
     requires limit { reader.old.limit ≡ LONGEST_SAID }
-    ensures turn { IsOutTurn (D.state desk.old) (D.state desk.new) reader.old reader.new (O.state output.old) (O.state output.new) result }
-    ensures closed { last_said_closed (past_of (D.state desk.old)) (D.state desk.old).host ≡ true →
-        IsClosedTurn (D.state desk.old) (D.state desk.new) reader.old reader.new (O.state output.old) (O.state output.new) result }
+    ensures turn { IsOutTurn (D.state desk.old) (D.state desk.new) reader.old reader.new
+        (O.state output.old) (O.state output.new) result }
+    ensures closed { last_said_closed (past_of (D.state desk.old)) (D.state desk.old).who ≡ true →
+        IsClosedTurn (D.state desk.old) (D.state desk.new) reader.old reader.new
+        (O.state output.old) (O.state output.new) result }
     ensures sound { IsSound (D.state desk.new) }
     ensures limit { reader.new.limit ≡ LONGEST_SAID }
+    ensures same_told { D.told desk.new ≡ D.told desk.old }
+    ensures same_key { D.key desk.new ≡ D.key desk.old }
+    ensures later { (O.state output.old).faults ≤ (O.state output.new).faults }
 {
     if desk.said_closed() {
         holds_no_frame(reader);

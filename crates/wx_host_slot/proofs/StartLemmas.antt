@@ -13,6 +13,7 @@ use Rattle.wx_external.specs.Gate.{native_gate_of, verdict_at, admits_caller}
 use Rattle.wx_external.specs.World.{WorldLists, host_place}
 use Rattle.wx_host_manifest.specs.HostManifests.{Host, arguments_of}
 use Rattle.wx_native_frame.specs.Frames.{Unfinished}
+use Rattle.wx_native_frame.proofs.FrameLaws.{short_under_way}
 use Rattle.wx_machine.specs.declared.entries.Call.TheVariants.{HostEnded}
 use Rattle.wx_machine.specs.declared.entries.Reason.TheVariants.{StartFailed}
 use Rattle.wx_machine.specs.declared.entries.Answer.{Answer}
@@ -25,12 +26,13 @@ use Rattle.wx_broker.specs.Views.{view_at, view_for, view_of, host_view}
 use Rattle.wx_outside.specs.Causes.{Rose}
 use Rattle.wx_host_launch.specs.Halves.{Sends, whole}
 use Rattle.wx_host_launch.specs.Pipes.{InState, OutState}
-use Rattle.wx_host_launch.specs.Records.{Program, Account, HostRecord, Writing, empty_account, empty_record, started, starting, AreFresh}
+use Rattle.wx_host_launch.specs.Reading.{Keeps, all}
+use Rattle.wx_host_launch.specs.Records.{Program, Account, HostRecord, Writing, StarterState, plus, empty_account, empty_record, started, starting, AreFresh}
 use Rattle.wx_host_slot.specs.Journals.{entries_of, taken_by, said_by, IsInPlace, program_at, program_of}
-use Rattle.wx_host_slot.specs.Meets.{IsHeard, MeetsAccount, ToldAccount}
-use Rattle.wx_host_slot.specs.Slots.{ChildState, SlotState, PipesTold, IsStartedRecord, Runs, StandsAs, waiting, running, at_end, Stands, host_limit, left_with, turns_left, IsStarted}
+use Rattle.wx_host_slot.specs.Meets.{IsHeard, MeetsAccount, ToldAccount, MeetsStarted}
+use Rattle.wx_host_slot.specs.Slots.{ChildState, SlotState, record_after, PipesTold, IsStartedRecord, Runs, StandsUntold, StandsAs, waiting, untold, running, at_end, Stands, WasStarted, host_limit, left_with, turns_left, IsStarted}
 use Rattle.wx_host_slot.specs.Turns.{not_started}
-use Rattle.wx_host_slot.proofs.JournalLemmas.{own, none_ended, none_taken, none_said, none_each, entries_own, ended_own}
+use Rattle.wx_host_slot.proofs.JournalLemmas.{own, turn_map, none_ended, none_taken, none_said, none_each, entries_own, ended_own}
 use Rattle.wx_host_slot.proofs.StandsLater.{runs_by}
 use Rattle.wx_host_slot.proofs.PipeLemmas.{whole_split}
 use Rattle.wx_host_slot.proofs.EndLemmas.{Leaves, account_ended, meets_ended}
@@ -100,11 +102,12 @@ pub record Waits (writing : Option Writing) (past : List Entry) (h : HostNo) (sl
   pub none_made : slot.made ≡ 0
   pub no_entries : entries_of h past ≡ 0
 
-pub waits_of : (writing : Option Writing) (world : WorldLists) (past : List Entry) (h : HostNo) (slot : SlotState) → Stands writing world past h slot → slot.ended ≡ false → slot.child ≡ None → Waits writing past h slot
-waits_of writing world past h slot s unended none = by s.stands
+pub waits_of : (writing : Option Writing) (world : WorldLists) (past : List Entry) (h : HostNo) (slot : SlotState) → Stands writing world past h slot → slot.ended ≡ false → slot.child ≡ None → slot.failed ≡ false → Waits writing past h slot
+waits_of writing world past h slot s unended none not_failed = by s.stands
   where
     by : StandsAs writing world past h slot → Waits writing past h slot
     by (waiting un empty is) = record { empty = empty; none_made = ap (λ (x : SlotState). x.made) is; no_entries = sym s.counted ∙ ap (λ (x : SlotState). x.made) is }
+    by (untold t) = absurd (true≢false (sym t.failed ∙ not_failed))
     by (running child run) = absurd (true≢false (ap is_some (sym run.has_child ∙ none)))
     by (at_end ended was meets) = absurd (true≢false (sym ended ∙ unended))
 
@@ -129,18 +132,20 @@ fresh_runs : (writing : Option Writing) (world : WorldLists) (past : List Entry)
 fresh_runs writing world past h p input output reader none is fresh limit bytes =
     let I : InState → Type 0 = λ i. PipesTold writing (Some p) [] [] i.sent output.stream in
     let O : OutState → Type 0 = λ o. PipesTold writing (Some p) [] [] (option_map (λ w. []) writing) o.stream in
-    runs_by writing world past h (fresh_child input output reader) (Some p) [] [] is (none_taken past h none) (none_said past h none) limit bytes tt
+    let K : List ℕ → Type 0 = Keeps [] in
+    runs_by writing world past h (fresh_child input output reader) (Some p) [] [] [] [] is (none_taken past h none) (none_said past h none) limit (whole_split [] tt)
+    (subst K (sym bytes) (all (short_under_way [] LONGEST_SAID (omega arith)).no_trouble))
     (subst I (sym fresh.input_is) (subst O (sym fresh.output_is) (fresh_told writing p)))
 
 -- the slot with its child started
 abbrev pub with_child : SlotState → Program → ℕ → ChildState → SlotState
-with_child slot p n child = record { starter = starting slot.starter p.path p.arguments n; child = Some child; made = slot.made; ended = slot.ended }
+with_child slot p n child = record { starter = starting slot.starter p.path p.arguments n; child = Some child; failed = slot.failed; made = slot.made; ended = slot.ended }
 
-pub start_runs : (world : WorldLists) (past : List Entry) (h : HostNo) (slot : SlotState) (p : Program) (n : ℕ) (input : InState) (output : OutState) (reader : Unfinished) → Stands slot.starter.writing world past h slot → slot.ended ≡ false → slot.child ≡ None → program_of world past h ≡ Some p → AreFresh slot.starter.writing p.path input output
+pub start_runs : (world : WorldLists) (past : List Entry) (h : HostNo) (slot : SlotState) (p : Program) (n : ℕ) (input : InState) (output : OutState) (reader : Unfinished) → Stands slot.starter.writing world past h slot → slot.ended ≡ false → slot.child ≡ None → slot.failed ≡ false → program_of world past h ≡ Some p → AreFresh slot.starter.writing p.path input output
     → reader.limit ≡ LONGEST_SAID → reader.bytes ≡ [] → IsStarted slot.starter.writing world h past past slot (with_child slot p n (fresh_child input output reader))
-start_runs world past h slot p n input output reader s unended none is fresh limit bytes =
+start_runs world past h slot p n input output reader s unended none not_failed is fresh limit bytes =
     let writing = slot.starter.writing in
-    let w = waits_of writing world past h slot s unended none in
+    let w = waits_of writing world past h slot s unended none not_failed in
     let child = fresh_child input output reader in
     let R : Option Program → Type 0 = λ o. IsStartedRecord writing o (starting slot.starter p.path p.arguments n).slot in
     let before = waiting_left slot unended none in
@@ -148,13 +153,14 @@ start_runs world past h slot p n input output reader s unended none is fresh lim
     let left : turns_left (with_child slot p n child) ≡ left_with false (Some child) slot.made = ap (λ b. left_with b (Some child) slot.made) unended in
     record {
       stands = record {
-        same_writing = refl;
+        alone = ap (λ (t : StarterState). starting t p.path p.arguments n) s.alone;
         counted = s.counted;
         stands = running child (record {
           has_child = refl;
           unended = unended;
           host_unended = none_ended past h w.no_entries;
           starter_record = subst R (sym is) (record {
+            once = ap (λ (r : HostRecord). plus r.starts 1) w.empty;
             account = ap (λ (r : HostRecord). option_map (started p.path p.arguments) r.account) w.empty ∙ started_account writing p;
             no_reads = ap (λ (r : HostRecord). r.failed_reads) w.empty;
             no_writes = ap (λ (r : HostRecord). r.failed_writes) w.empty;
@@ -188,29 +194,81 @@ failed_told (Some w) world past h r p a none is =
     account_ended world past h r w account StartFailed a p (none_ended past h none) is refl leaves
 
 -- the slot whose program could not be started
-abbrev pub without_child : SlotState → Program → ℕ → SlotState
-without_child slot p n = record { starter = starting slot.starter p.path p.arguments n; child = None; made = 1; ended = true }
+abbrev pub failed_slot : SlotState → Program → ℕ → SlotState
+failed_slot slot p n = record { starter = starting slot.starter p.path p.arguments n; child = slot.child; failed = true; made = slot.made; ended = slot.ended }
 
-pub start_fails : (world : WorldLists) (past : List Entry) (h : HostNo) (slot : SlotState) (p : Program) (n : ℕ) (a : Answer) → Stands slot.starter.writing world past h slot → slot.ended ≡ false → slot.child ≡ None → program_of world past h ≡ Some p → Rose slot.starter.slot.failed_starts n
-    → IsStarted slot.starter.writing world h past (own h (HostEnded StartFailed) a ∷ past) slot (without_child slot p n)
-start_fails world past h slot p n a s unended none is rose =
+pub start_fails : (world : WorldLists) (past : List Entry) (h : HostNo) (slot : SlotState) (p : Program) (n : ℕ) → Stands slot.starter.writing world past h slot → slot.ended ≡ false → slot.child ≡ None → slot.failed ≡ false → program_of world past h ≡ Some p → Rose slot.starter.slot.failed_starts n
+    → Stands slot.starter.writing world past h (failed_slot slot p n)
+start_fails world past h slot p n s unended none not_failed is rose =
     let writing = slot.starter.writing in
-    let w = waits_of writing world past h slot s unended none in
-    let r = (starting slot.starter p.path p.arguments n).slot in
-    let no_entries = w.no_entries in
-    let un = none_ended past h w.no_entries in
+    let w = waits_of writing world past h slot s unended none not_failed in
+    record {
+      alone = ap (λ (t : StarterState). starting t p.path p.arguments n) s.alone;
+      counted = s.counted;
+      stands = untold (record {
+        failed = refl;
+        no_child = none;
+        none_made = w.none_made;
+        unended = unended;
+        program = p;
+        its_own = is;
+        starter_record = record {
+          once = ap (λ (r : HostRecord). plus r.starts 1) w.empty;
+          account = ap (λ (r : HostRecord). option_map (started p.path p.arguments) r.account) w.empty ∙ started_account writing p;
+          no_reads = ap (λ (r : HostRecord). r.failed_reads) w.empty;
+          no_writes = ap (λ (r : HostRecord). r.failed_writes) w.empty;
+        };
+        failed_starts = omega (arith, rose);
+      });
+    }
+
+untold_of : (writing : Option Writing) (world : WorldLists) (past : List Entry) (h : HostNo) (slot : SlotState) → Stands writing world past h slot → slot.ended ≡ false → slot.child ≡ None → slot.failed ≡ true → StandsUntold writing world past h slot
+untold_of writing world past h slot s unended none failed = by s.stands
+  where
+    by : StandsAs writing world past h slot → StandsUntold writing world past h slot
+    by (waiting un empty is) = absurd (true≢false (sym failed ∙ ap (λ (x : SlotState). x.failed) is))
+    by (untold t) = t
+    by (running child run) = absurd (true≢false (ap is_some (sym run.has_child ∙ none)))
+    by (at_end ended was meets) = absurd (true≢false (sym ended ∙ unended))
+
+-- the slot whose host told that its program could not be started
+abbrev pub told_slot : SlotState → SlotState
+told_slot slot = record { starter = slot.starter; child = slot.child; failed = slot.failed; made = 1; ended = true }
+
+pub tells_failed : (writing : Option Writing) (world : WorldLists) (past : List Entry) (h : HostNo) (slot : SlotState) (a : Answer) → Stands writing world past h slot → slot.ended ≡ false → slot.child ≡ None → slot.failed ≡ true
+    → IsStarted writing world h past (own h (HostEnded StartFailed) a ∷ past) slot (told_slot slot)
+tells_failed writing world past h slot a s unended none failed =
+    let t = untold_of writing world past h slot s unended none failed in
+    let r = slot.starter.slot in
+    let no_entries : entries_of h past ≡ 0 = sym s.counted ∙ t.none_made in
+    let un = none_ended past h no_entries in
     let before = waiting_left slot unended none in
-    let account : r.account ≡ option_map (λ w. record empty_account { program = Some p }) writing = ap (λ (x : HostRecord). option_map (started p.path p.arguments) x.account) w.empty ∙ started_account writing p in
     let M : Option Account → Type 0 = ToldAccount (MeetsAccount world (own h (HostEnded StartFailed) a ∷ past) h r) writing in
-    let meets = meets_ended writing world past h r StartFailed a un (none_each (IsInPlace h) past h w.no_entries) tt (omega (arith, rose), omega (arith, no_entries)) (subst M (sym account) (failed_told writing world past h r p a w.no_entries is)) in
+    let meets = meets_ended writing world past h r StartFailed a un (none_each (IsInPlace h) past h no_entries) tt t.starter_record.once (t.failed_starts, omega (arith, no_entries))
+    (subst M (sym t.starter_record.account) (failed_told writing world past h r t.program a no_entries t.its_own)) in
+    let C : Option ChildState → Type 0 = λ c. MeetsStarted writing world (own h (HostEnded StartFailed) a ∷ past) h (record_after r c) in
     record {
       stands = record {
-        same_writing = refl;
-        counted = sym (entries_own h (HostEnded StartFailed) a past ∙ ap (λ n. n + 1) w.no_entries);
-        stands = at_end refl (ended_own h (HostEnded StartFailed) a past un) meets;
+        alone = s.alone;
+        counted = sym (entries_own h (HostEnded StartFailed) a past ∙ ap (λ n. n + 1) no_entries);
+        stands = at_end refl (ended_own h (HostEnded StartFailed) a past un) (subst C (sym none) meets);
       };
       started = λ e. absurd (true≢false e);
       less = omega (arith, before);
-      turn = λ _. not_started (λ was. true≢false (sym (subst IsSome none (was unended)))) w.no_entries (record { answer = a; made = refl });
+      turn = λ _. not_started (λ was. true≢false (sym (subst IsSome none (was unended)))) no_entries (record { answer = a; made = refl });
       no_entry = λ e. absurd (true≢false e);
+    }
+
+-- the same, from a slot with the same child in which its host had not ended either
+pub started_from : (writing : Option Writing) (world : WorldLists) (h : HostNo) (before after : List Entry) (old mid new : SlotState) → old.child ≡ None → mid.child ≡ None → old.ended ≡ false → mid.ended ≡ false → IsStarted writing world h before after mid new → IsStarted writing world h before after old new
+started_from writing world h before after old mid new none mid_none unended mid_unended s =
+    let was = waiting_left old unended none in
+    let is = waiting_left mid mid_unended mid_none in
+    let less = s.less in
+    record {
+      stands = s.stands;
+      started = s.started;
+      less = omega (arith, less, was, is);
+      turn = λ ended. turn_map (λ un. λ w. un (λ e. absurd (true≢false (sym (subst IsSome none (w unended)))))) h before after (s.turn ended);
+      no_entry = s.no_entry;
     }

@@ -1,4 +1,3 @@
-pub mod BrokerDesks
 pub mod Journals
 pub mod Meets
 pub mod Slots

@@ -29,8 +29,8 @@ abbrev pub AllSaid : List (List ℕ) → Type 0
 AllSaid unsaid = unsaid ≡ []
 
 -- the cause of a reason in what is told of the bytes. Where the host ended by what was read, every text that was read was
--- said, and behind them stood trouble, or the end of what the child writes, within a frame or behind one; where a read
--- failed, they were said and nothing was wrong behind them; where no program was started, nothing was read or sent. Of a
+-- said, and after them stood trouble, or the end of what the child writes, within a frame or after one; where a read
+-- failed, they were said and nothing was wrong after them; where no program was started, nothing was read or sent. Of a
 -- failed write and a closed channel the bytes tell nothing.
 abbrev pub ToldCause : {writes read : List ℕ} → IsHeard writes read → List (List ℕ) → Account → Reason → Type 0
 ToldCause heard unsaid account StartFailed = (account.read ≡ []) × (account.sent ≡ [])
@@ -82,11 +82,13 @@ ToldAccount P (Some writing) None = ⊥
 
 -- The record of a host that was started, or was to be, meets the journal.
 pub record MeetsStarted (writing : Option Writing) (world : WorldLists) (past : List Entry) (h : HostNo) (r : HostRecord) : Type 0 where
+  pub once : r.starts ≡ 1
   pub in_place : EachOf h (IsInPlace h) past
   pub counted : EachOf h (CountedEnd h (entries_of h past) r) past
   pub told : ToldAccount (MeetsAccount world past h r) writing r.account
 
--- Host h's record meets the journal. Only where the run was spent may the host have no entry, and an empty record.
+-- Host h's record meets the journal. Its slot was started once; or never, and then its record is empty and the host has no
+-- entry, which may be only where the run was spent.
 pub data RecordMeets (spent : Type 0) (writing : Option Writing) (world : WorldLists) (past : List Entry) (h : HostNo) (r : HostRecord) : Type 0 where
   was_started : MeetsStarted writing world past h r → RecordMeets spent writing world past h r
   never_started : spent → entries_of h past ≡ 0 → r ≡ empty_record writing → RecordMeets spent writing world past h r

@@ -4,13 +4,14 @@ use Rattle.std.specs.Option.{option_map}
 use Rattle.wx_id.specs.declared.numbers.HostNo.{HostNo}
 use Rattle.wx_external.specs.World.{WorldLists}
 use Rattle.wx_native_frame.specs.Frames.{Unfinished}
-use Rattle.wx_native_frame.specs.Splits.{frames, AllFit}
+use Rattle.wx_native_frame.specs.Splits.{frames, IsSplit}
 use Rattle.wx_machine.specs.declared.entries.Entry.{Entry}
 use Rattle.wx_machine.specs.declared.entries.TheConstants.{LONGEST_SAID}
 use Rattle.wx_machine.specs.Answers.{is_host_ready}
 use Rattle.wx_machine.specs.Texts.{has_ended}
 use Rattle.wx_host_launch.specs.Pipes.{InState, OutState, Stream}
-use Rattle.wx_host_launch.specs.Records.{Program, HostRecord, Writing, StarterState, empty_account, empty_record, finished}
+use Rattle.wx_host_launch.specs.Reading.{Keeps}
+use Rattle.wx_host_launch.specs.Records.{Program, HostRecord, Writing, StarterState, empty_account, empty_record, for_slot, finished}
 use Rattle.wx_host_slot.specs.Journals.{entries_of, taken_by, said_by, EachOf, IsInPlace, program_of}
 use Rattle.wx_host_slot.specs.Meets.{MeetsStarted}
 use Rattle.wx_host_slot.specs.Turns.{HostTurn, SaysOrEnds}
@@ -23,10 +24,12 @@ pub record ChildState : Type 0 where
   pub output : OutState
   pub reader : Unfinished
 
--- a slot: its starter, the child where one was started, how many entries its host has made, and whether the host ended
+-- a slot: its starter, the child where one was started, whether that failed, how many entries its host has made, and whether
+-- the host ended
 pub record SlotState : Type 0 where
   pub starter : StarterState
   pub child : Option ChildState
+  pub failed : Bool
   pub made : ℕ
   pub ended : Bool
 
@@ -34,45 +37,54 @@ pub record SlotState : Type 0 where
 pub record SlotView (P : Type 0) : Type 0 where
   pub starter : P
   pub child : Option ChildState
+  pub failed : Bool
   pub made : ℕ
   pub ended : Bool
 
 -- the same slot, by what its starter tells
 abbrev pub slot_of : {P : Type 0} → (P → StarterState) → SlotView P → SlotState
-slot_of state slot = record { starter = state slot.starter; child = slot.child; made = slot.made; ended = slot.ended }
+slot_of state slot = record { starter = state slot.starter; child = slot.child; failed = slot.failed; made = slot.made; ended = slot.ended }
 
 abbrev pub slots_of : {P : Type 0} → (P → StarterState) → List (SlotView P) → List SlotState
 slots_of state slots = map (slot_of state) slots
 
 -- the slot in which nothing was started yet
 abbrev pub waiting_slot : StarterState → SlotState
-waiting_slot starter = record { starter = starter; child = None; made = 0; ended = false }
+waiting_slot starter = record { starter = starter; child = None; failed = false; made = 0; ended = false }
 
 -- the slot's record once its child is finished, where one was started
-abbrev pub record_behind : HostRecord → Option ChildState → HostRecord
-record_behind r None = r
-record_behind r (Some child) = finished r child.input child.output
+abbrev pub record_after : HostRecord → Option ChildState → HostRecord
+record_after r None = r
+record_after r (Some child) = finished r child.input child.output
 
 abbrev pub closing_record : SlotState → HostRecord
-closing_record slot = record_behind slot.starter.slot slot.child
+closing_record slot = record_after slot.starter.slot slot.child
 
--- what was sent and read is told where it is told what children write, and then it is the frames of what the host took and
--- said, and the child will write the rest
-abbrev pub PipesTold : Option Writing → Option Program → List (List ℕ) → List (List ℕ) → Option (List ℕ) → Option Stream → Type 0
-PipesTold (Some writing) (Some program) taken said (Some sent) (Some stream) =
-    (sent ≡ frames taken) × (stream.read ≡ frames said) × (writing program.path ≡ stream.read ++ stream.coming)
-PipesTold None (Some program) taken said None None = Unit {0}
-PipesTold _ _ taken said _ _ = ⊥
+-- the slot's starter then
+abbrev pub closing_starter : SlotState → StarterState
+closing_starter slot = record slot.starter { slot = closing_record slot }
 
--- A child runs for host h: nothing that it wrote is in hand, and its pipe has carried what the host took and said.
+-- what was sent and read is told where it is told what children write; then it is the frames of what the host took, and these
+-- bytes, and the child will write the rest
+abbrev pub PipesTold : Option Writing → Option Program → List (List ℕ) → List ℕ → Option (List ℕ) → Option Stream → Type 0
+PipesTold (Some writing) (Some program) taken read (Some sent) (Some stream) =
+    (sent ≡ frames taken) × (stream.read ≡ read) × (writing program.path ≡ stream.read ++ stream.coming)
+PipesTold None (Some program) taken read None None = Unit {0}
+PipesTold _ _ taken read _ _ = ⊥
+
+-- A child runs for host h: what was read of it is the frames of what the host said, and after them what the reader has in
+-- hand; and its pipe has carried this, and what the host took.
 pub record Runs (writing : Option Writing) (world : WorldLists) (past : List Entry) (h : HostNo) (child : ChildState) : Type 0 where
   pub limit : child.reader.limit ≡ LONGEST_SAID
-  pub none_in_hand : child.reader.bytes ≡ []
-  pub fit : AllFit LONGEST_SAID (said_by h past)
-  pub pipes : PipesTold writing (program_of world past h) (taken_by h past) (said_by h past) child.input.sent child.output.stream
+  pub read : List ℕ
+  pub rest : List ℕ
+  pub split : IsSplit LONGEST_SAID read (said_by h past) rest
+  pub in_hand : Keeps rest child.reader.bytes
+  pub pipes : PipesTold writing (program_of world past h) (taken_by h past) read child.input.sent child.output.stream
 
 -- the record of a host whose program was started, or was to be, before its child is finished
 pub record IsStartedRecord (writing : Option Writing) (program : Option Program) (r : HostRecord) : Type 0 where
+  pub once : r.starts ≡ 1
   pub account : r.account ≡ option_map (λ w. record empty_account { program = program }) writing
   pub no_reads : r.failed_reads ≡ 0
   pub no_writes : r.failed_writes ≡ 0
@@ -86,16 +98,28 @@ pub record StandsRunning (writing : Option Writing) (world : WorldLists) (past :
   pub runs : Runs writing world past h child
   pub in_place : EachOf h (IsInPlace h) past
 
--- How a slot stands to the journal: its host has made no entry, and nothing was started; or its child runs; or the host ended,
--- and the record that the slot will leave meets the journal.
+-- the program of host h could not be started, and the host has made no entry, which is to tell that
+pub record StandsUntold (writing : Option Writing) (world : WorldLists) (past : List Entry) (h : HostNo) (slot : SlotState) : Type 0 where
+  pub failed : slot.failed ≡ true
+  pub no_child : slot.child ≡ None
+  pub none_made : slot.made ≡ 0
+  pub unended : slot.ended ≡ false
+  pub program : Program
+  pub its_own : program_of world past h ≡ Some program
+  pub starter_record : IsStartedRecord writing (Some program) slot.starter.slot
+  pub failed_starts : 0 < slot.starter.slot.failed_starts
+
+-- How a slot stands to the journal: its host has made no entry, and nothing was started, or it could not be; or its child runs;
+-- or the host ended, and the record that the slot will leave meets the journal.
 pub data StandsAs (writing : Option Writing) (world : WorldLists) (past : List Entry) (h : HostNo) (slot : SlotState) : Type 0 where
   waiting : has_ended past h ≡ false → slot.starter.slot ≡ empty_record writing → slot ≡ waiting_slot slot.starter → StandsAs writing world past h slot
+  untold : StandsUntold writing world past h slot → StandsAs writing world past h slot
   running : (child : ChildState) → StandsRunning writing world past h slot child → StandsAs writing world past h slot
   at_end : slot.ended ≡ true → has_ended past h ≡ true → MeetsStarted writing world past h (closing_record slot) → StandsAs writing world past h slot
 
--- The slot is host h's, and stands so.
+-- The slot is host h's, nothing else was done with its starter, and it stands so.
 pub record Stands (writing : Option Writing) (world : WorldLists) (past : List Entry) (h : HostNo) (slot : SlotState) : Type 0 where
-  pub same_writing : slot.starter.writing ≡ writing
+  pub alone : slot.starter ≡ for_slot writing slot.starter.slot
   pub counted : slot.made ≡ entries_of h past
   pub stands : StandsAs writing world past h slot
 
@@ -120,13 +144,13 @@ left_with false (Some child) made = (host_limit + 3) - made
 abbrev pub turns_left : SlotState → ℕ
 turns_left slot = left_with slot.ended slot.child slot.made
 
--- what a turn behind those of the endpoints came to: fewer turns are left, since an entry was made or a program started; or
+-- what a turn after those of the endpoints came to: fewer turns are left, since an entry was made or a program started; or
 -- nothing was done, as there was nothing to take
 abbrev pub CameTo : HostNo → List Entry → List Entry → SlotState → SlotState → Served → Type 0
 CameTo h before after old new Moved = turns_left new < turns_left old
 CameTo h before after old new Rested = (after ≡ before) × (is_host_ready before h ≡ false) × (new ≡ old)
 
--- What a host's turn behind those of the endpoints leaves.
+-- What a host's turn after those of the endpoints leaves.
 pub record IsServed (writing : Option Writing) (world : WorldLists) (h : HostNo) (before after : List Entry) (old new : SlotState) (served : Served) : Type 0 where
   pub turn : HostTurn (¬ WasStarted old) h before after
   pub stands : Stands writing world after h new

@@ -1,20 +1,36 @@
-ghost use Rattle.std.specs.Prelude.{◌≡◌, ◌<◌, false, length, reverse, Option, Some, None, IsSome, IfOk, OnOk};
-ghost use Rattle.wx_id.specs.declared.numbers.EntryNo.{EntryNo};
+//! The slot of one native host of a run.
+ghost use Rattle.std.specs.Prelude.{◌≡◌, ◌<◌, true, false, length, reverse, Option, Some, None, IsSome, IfOk, OnOk};
 ghost use Rattle.wx_machine.specs.declared.entries.TheConstants.{LONGEST_SAID};
 ghost use Rattle.wx_machine.specs.Answers.{IsLegal, is_host_ready};
 ghost use Rattle.wx_machine.specs.Hosts.{hosts};
 ghost use Rattle.wx_host_launch.specs.Records.{Program, Starts, AreFresh};
 ghost use Rattle.wx_host_launch.specs.Turns.{IsInTurn, IsOutTurn};
-ghost use Rattle.wx_host_slot.specs.BrokerDesks.{desk_over};
+ghost use Rattle.wx_machine.specs.declared.entries.Who.TheVariants as Who;
+ghost use Rattle.wx_desk.specs.BrokerDesks.{desk_over};
 ghost use Rattle.wx_host_slot.specs.Journals.{program_of};
-ghost use Rattle.wx_host_slot.specs.Slots.{slot_of, waiting_slot, closing_record, host_limit, Stands, WasStarted, is_spent_at, turns_left, CameTo, IsServed, IsStarted, HasSaidOrEnded};
+ghost use Rattle.wx_host_slot.specs.Slots.{
+  slot_of,
+  waiting_slot,
+  closing_starter,
+  host_limit,
+  Stands,
+  WasStarted,
+  is_spent_at,
+  turns_left,
+  CameTo,
+  IsServed,
+  IsStarted,
+  HasSaidOrEnded,
+};
 ghost use Rattle.wx_host_slot.specs.Turns.{HostTurn, SaysOrEnds};
 
-use crate::broker_desk::{in_turn_at, out_turn_at};
 use std::alloc::Global;
 use std::marker::Model;
 use wx_broker::Broker;
-use wx_host_launch::{HostIn, HostOut, InTurn, OutTurn, StartFault, Starter};
+use wx_desk::BrokerDesk;
+use wx_host_launch::{
+    HostDesk, HostIn, HostOut, InTurn, OutTurn, StartFault, Starter, in_turn, out_turn,
+};
 use wx_id::{HostNo, NoMemory};
 use wx_machine::{LONGEST_SAID, Reason};
 use wx_native_frame::FrameReader;
@@ -32,11 +48,14 @@ pub struct Child<I: HostIn, O: HostOut> {
 pub struct HostSlot<P: Starter> {
     starter: P,
     child: Option<Child<P::In, P::Out>>,
+    /// Whether its program could not be started.
+    failed: bool,
+    /// How many entries its host has made.
     made: u64,
     ended: bool,
 }
 
-/// What a host's turn behind those of the endpoints came to.
+/// What a host's turn after those of the endpoints came to.
 #[derive(Clone, Copy, Debug, PartialEq, Eq)]
 pub enum Served {
     /// It made an entry, or its program was started.
@@ -50,7 +69,11 @@ impl<I: HostIn, O: HostOut> Model for Child<I, O> {
 
     ghost Value = { ChildState };
 
-    ghost view = { λ child. record { input = I.state child.input; output = O.state child.output; reader = child.reader } };
+    ghost view = { λ child. record {
+      input = I.state child.input;
+      output = O.state child.output;
+      reader = child.reader;
+    } };
 }
 
 impl<P: Starter> Model for HostSlot<P> {
@@ -58,7 +81,13 @@ impl<P: Starter> Model for HostSlot<P> {
 
     ghost Value = { SlotView P };
 
-    ghost view = { λ slot. record { starter = slot.starter; child = slot.child; made = slot.made; ended = slot.ended } };
+    ghost view = { λ slot. record {
+      starter = slot.starter;
+      child = slot.child;
+      failed = slot.failed;
+      made = slot.made;
+      ended = slot.ended;
+    } };
 }
 
 /// Starts the program of host h with the origin of its caller.
@@ -91,22 +120,24 @@ fn launch<P: Starter>(
 /// One turn of a child's input.
 fn take_next<I: HostIn, O: HostOut>(
     child: Child<I, O>,
-    broker: &mut Broker,
+    desk: &mut BrokerDesk,
     h: HostNo,
 ) -> (Child<I, O>, InTurn)
-    requires legal { IsLegal broker.old.world broker.old.entries }
-    requires host { h.0 < length (hosts (reverse broker.old.entries)) }
-    ensures turn { (lent : Option EntryNo) × IsInTurn (desk_over h broker.old None) (desk_over h broker.new lent) child.input result.0.input result.1 }
+    requires legal { IsLegal desk.old.broker.world desk.old.broker.entries }
+    requires host { h.0 < length (hosts (reverse desk.old.broker.entries)) }
+    ensures turn { IsInTurn (desk_over Who.Host h desk.old.broker) (desk_over Who.Host h desk.new.broker)
+        child.input result.0.input result.1 }
     ensures same { result.0 ≡ record child { input = result.0.input } }
-    ensures legal { IsLegal broker.old.world broker.new.entries }
-    ensures same_world { broker.new.world ≡ broker.old.world }
+    ensures legal { IsLegal desk.old.broker.world desk.new.broker.entries }
+    ensures same_world { desk.new.broker.world ≡ desk.old.broker.world }
 {
+    desk.host = h;
     let Child {
-        input,
+        mut input,
         output,
         reader,
     } = child;
-    let (input, came) = in_turn_at(broker, h, input);
+    let came = in_turn(desk, &mut input);
     let child = Child {
         input,
         output,
@@ -118,24 +149,26 @@ fn take_next<I: HostIn, O: HostOut>(
 /// One turn of a child's output.
 fn hear_next<I: HostIn, O: HostOut>(
     child: Child<I, O>,
-    broker: &mut Broker,
+    desk: &mut BrokerDesk,
     h: HostNo,
 ) -> (Child<I, O>, OutTurn)
-    requires legal { IsLegal broker.old.world broker.old.entries }
-    requires host { h.0 < length (hosts (reverse broker.old.entries)) }
+    requires legal { IsLegal desk.old.broker.world desk.old.broker.entries }
+    requires host { h.0 < length (hosts (reverse desk.old.broker.entries)) }
     requires limit { child.reader.limit ≡ LONGEST_SAID }
-    ensures turn { (lent : Option EntryNo) × IsOutTurn (desk_over h broker.old None) (desk_over h broker.new lent) child.reader result.0.reader child.output result.0.output result.1 }
+    ensures turn { IsOutTurn (desk_over Who.Host h desk.old.broker) (desk_over Who.Host h desk.new.broker)
+        child.reader result.0.reader child.output result.0.output result.1 }
     ensures same { result.0 ≡ record child { output = result.0.output; reader = result.0.reader } }
     ensures limit { result.0.reader.limit ≡ LONGEST_SAID }
-    ensures legal { IsLegal broker.old.world broker.new.entries }
-    ensures same_world { broker.new.world ≡ broker.old.world }
+    ensures legal { IsLegal desk.old.broker.world desk.new.broker.entries }
+    ensures same_world { desk.new.broker.world ≡ desk.old.broker.world }
 {
+    desk.host = h;
     let Child {
         input,
-        output,
-        reader,
+        mut output,
+        mut reader,
     } = child;
-    let ((reader, output), came) = out_turn_at(broker, h, reader, output);
+    let came = out_turn(desk, &mut reader, &mut output);
     let child = Child {
         input,
         output,
@@ -152,6 +185,7 @@ impl<P: Starter> HostSlot<P> {
         HostSlot {
             starter,
             child: None,
+            failed: false,
             made: 0,
             ended: false,
         }
@@ -171,47 +205,57 @@ impl<P: Starter> HostSlot<P> {
         self.made >= 65_536 && !self.ended
     }
 
-    /// The turn of host h behind those of the endpoints: where nothing was started yet its program is started; then it
+    /// The turn of host h after those of the endpoints: where nothing was started yet its program is started; then it
     /// takes, where that has something new to tell.
     pub fn serve(
         &mut self,
         alloc: Global,
-        broker: &mut Broker,
+        desk: &mut BrokerDesk,
         h: HostNo,
     ) -> Result<Served, NoMemory>
-        requires legal { IsLegal broker.old.world broker.old.entries }
-        requires host { h.0 < length (hosts (reverse broker.old.entries)) }
-        requires stands { Stands (P.state self.old.starter).writing broker.old.world (reverse broker.old.entries) h (slot_of P.state self.old) }
+        requires legal { IsLegal desk.old.broker.world desk.old.broker.entries }
+        requires host { h.0 < length (hosts (reverse desk.old.broker.entries)) }
+        requires stands { Stands (P.state self.old.starter).writing desk.old.broker.world
+            (reverse desk.old.broker.entries) h (slot_of P.state self.old) }
         requires unspent { is_spent_at (slot_of P.state self.old) ≡ false }
-        ensures turn { OnOk result (HostTurn (¬ WasStarted (slot_of P.state self.old)) h (reverse broker.old.entries) (reverse broker.new.entries)) }
-        ensures stands { OnOk result (Stands (P.state self.old.starter).writing broker.old.world (reverse broker.new.entries) h (slot_of P.state self.new)) }
+        ensures turn { OnOk result (HostTurn (¬ WasStarted (slot_of P.state self.old)) h
+            (reverse desk.old.broker.entries) (reverse desk.new.broker.entries)) }
+        ensures stands { OnOk result (Stands (P.state self.old.starter).writing desk.old.broker.world
+            (reverse desk.new.broker.entries) h (slot_of P.state self.new)) }
         ensures started { OnOk result (WasStarted (slot_of P.state self.new)) }
-        ensures came { IfOk result (CameTo h (reverse broker.old.entries) (reverse broker.new.entries) (slot_of P.state self.old) (slot_of P.state self.new)) }
-        ensures legal { OnOk result (IsLegal broker.old.world broker.new.entries) }
-        ensures same_world { OnOk result (broker.new.world ≡ broker.old.world) }
+        ensures came { IfOk result (CameTo h (reverse desk.old.broker.entries) (reverse desk.new.broker.entries)
+            (slot_of P.state self.old) (slot_of P.state self.new)) }
+        ensures legal { OnOk result (IsLegal desk.old.broker.world desk.new.broker.entries) }
+        ensures same_world { OnOk result (desk.new.broker.world ≡ desk.old.broker.world) }
     {
         if self.ended {
             return Ok(Served::Rested);
         }
         if self.child.is_none() {
-            self.start_and_take(alloc, broker, h)
+            self.start_and_take(alloc, desk, h)
         } else {
-            self.take(broker, h)
+            self.take(desk, h)
         }
     }
 
     /// Starts the program of host h, or ends the host where that fails.
-    fn start(&mut self, alloc: Global, broker: &mut Broker, h: HostNo) -> Result<(), NoMemory>
-        requires legal { IsLegal broker.old.world broker.old.entries }
-        requires host { h.0 < length (hosts (reverse broker.old.entries)) }
-        requires stands { Stands (P.state self.old.starter).writing broker.old.world (reverse broker.old.entries) h (slot_of P.state self.old) }
+    fn start(&mut self, alloc: Global, desk: &mut BrokerDesk, h: HostNo) -> Result<(), NoMemory>
+        requires legal { IsLegal desk.old.broker.world desk.old.broker.entries }
+        requires host { h.0 < length (hosts (reverse desk.old.broker.entries)) }
+        requires stands { Stands (P.state self.old.starter).writing desk.old.broker.world
+            (reverse desk.old.broker.entries) h (slot_of P.state self.old) }
         requires unended { self.old.ended ≡ false }
         requires none { self.old.child ≡ None }
-        ensures started { OnOk result (IsStarted (P.state self.old.starter).writing broker.old.world h (reverse broker.old.entries) (reverse broker.new.entries) (slot_of P.state self.old) (slot_of P.state self.new)) }
-        ensures legal { OnOk result (IsLegal broker.old.world broker.new.entries) }
-        ensures same_world { OnOk result (broker.new.world ≡ broker.old.world) }
+        ensures started { OnOk result (IsStarted (P.state self.old.starter).writing desk.old.broker.world h
+            (reverse desk.old.broker.entries) (reverse desk.new.broker.entries) (slot_of P.state self.old)
+            (slot_of P.state self.new)) }
+        ensures legal { OnOk result (IsLegal desk.old.broker.world desk.new.broker.entries) }
+        ensures same_world { OnOk result (desk.new.broker.world ≡ desk.old.broker.world) }
     {
-        match launch(&mut self.starter, alloc, broker, h) {
+        if self.failed {
+            return self.tell_failed(desk, h);
+        }
+        match launch(&mut self.starter, alloc, &desk.broker, h) {
             Ok((input, output)) => {
                 self.child = Some(Child {
                     input,
@@ -221,54 +265,80 @@ impl<P: Starter> HostSlot<P> {
                 Ok(())
             }
             Err(StartFault::Failed) => {
-                broker.host_ended(h, Reason::StartFailed)?;
-                self.made = 1;
-                self.ended = true;
-                Ok(())
+                self.failed = true;
+                self.tell_failed(desk, h)
             }
             Err(StartFault::NoMemory) => Err(NoMemory),
         }
+    }
+
+    /// Host h ends, as its program could not be started.
+    fn tell_failed(&mut self, desk: &mut BrokerDesk, h: HostNo) -> Result<(), NoMemory>
+        requires legal { IsLegal desk.old.broker.world desk.old.broker.entries }
+        requires host { h.0 < length (hosts (reverse desk.old.broker.entries)) }
+        requires stands { Stands (P.state self.old.starter).writing desk.old.broker.world
+            (reverse desk.old.broker.entries) h (slot_of P.state self.old) }
+        requires unended { self.old.ended ≡ false }
+        requires none { self.old.child ≡ None }
+        requires failed { self.old.failed ≡ true }
+        ensures started { OnOk result (IsStarted (P.state self.old.starter).writing desk.old.broker.world h
+            (reverse desk.old.broker.entries) (reverse desk.new.broker.entries) (slot_of P.state self.old)
+            (slot_of P.state self.new)) }
+        ensures legal { OnOk result (IsLegal desk.old.broker.world desk.new.broker.entries) }
+        ensures same_world { OnOk result (desk.new.broker.world ≡ desk.old.broker.world) }
+    {
+        desk.host = h;
+        desk.host_ended(Reason::StartFailed)?;
+        self.made = 1;
+        self.ended = true;
+        Ok(())
     }
 
     /// Starts the program of host h; then it takes, where that has something new to tell.
     fn start_and_take(
         &mut self,
         alloc: Global,
-        broker: &mut Broker,
+        desk: &mut BrokerDesk,
         h: HostNo,
     ) -> Result<Served, NoMemory>
-        requires legal { IsLegal broker.old.world broker.old.entries }
-        requires host { h.0 < length (hosts (reverse broker.old.entries)) }
-        requires stands { Stands (P.state self.old.starter).writing broker.old.world (reverse broker.old.entries) h (slot_of P.state self.old) }
+        requires legal { IsLegal desk.old.broker.world desk.old.broker.entries }
+        requires host { h.0 < length (hosts (reverse desk.old.broker.entries)) }
+        requires stands { Stands (P.state self.old.starter).writing desk.old.broker.world
+            (reverse desk.old.broker.entries) h (slot_of P.state self.old) }
         requires unended { self.old.ended ≡ false }
         requires none { self.old.child ≡ None }
-        ensures served { IfOk result (λ served. IsServed (P.state self.old.starter).writing broker.old.world h (reverse broker.old.entries) (reverse broker.new.entries) (slot_of P.state self.old) (slot_of P.state self.new) served) }
-        ensures legal { OnOk result (IsLegal broker.old.world broker.new.entries) }
-        ensures same_world { OnOk result (broker.new.world ≡ broker.old.world) }
+        ensures served { IfOk result (λ served. IsServed (P.state self.old.starter).writing desk.old.broker.world h
+            (reverse desk.old.broker.entries) (reverse desk.new.broker.entries) (slot_of P.state self.old)
+            (slot_of P.state self.new) served) }
+        ensures legal { OnOk result (IsLegal desk.old.broker.world desk.new.broker.entries) }
+        ensures same_world { OnOk result (desk.new.broker.world ≡ desk.old.broker.world) }
     {
-        self.start(alloc, broker, h)?;
+        self.start(alloc, desk, h)?;
         if !self.ended {
-            self.take(broker, h)?;
+            self.take(desk, h)?;
         }
         Ok(Served::Moved)
     }
 
     /// Host h, whose child runs, takes, where that has something new to tell.
-    fn take(&mut self, broker: &mut Broker, h: HostNo) -> Result<Served, NoMemory>
-        requires legal { IsLegal broker.old.world broker.old.entries }
-        requires host { h.0 < length (hosts (reverse broker.old.entries)) }
-        requires stands { Stands (P.state self.old.starter).writing broker.old.world (reverse broker.old.entries) h (slot_of P.state self.old) }
+    fn take(&mut self, desk: &mut BrokerDesk, h: HostNo) -> Result<Served, NoMemory>
+        requires legal { IsLegal desk.old.broker.world desk.old.broker.entries }
+        requires host { h.0 < length (hosts (reverse desk.old.broker.entries)) }
+        requires stands { Stands (P.state self.old.starter).writing desk.old.broker.world
+            (reverse desk.old.broker.entries) h (slot_of P.state self.old) }
         requires unended { self.old.ended ≡ false }
         requires started { IsSome self.old.child }
         requires room { self.old.made < host_limit }
-        ensures served { IfOk result (λ served. IsServed (P.state self.old.starter).writing broker.old.world h (reverse broker.old.entries) (reverse broker.new.entries) (slot_of P.state self.old) (slot_of P.state self.new) served) }
-        ensures legal { OnOk result (IsLegal broker.old.world broker.new.entries) }
-        ensures same_world { OnOk result (broker.new.world ≡ broker.old.world) }
+        ensures served { IfOk result (λ served. IsServed (P.state self.old.starter).writing desk.old.broker.world h
+            (reverse desk.old.broker.entries) (reverse desk.new.broker.entries) (slot_of P.state self.old)
+            (slot_of P.state self.new) served) }
+        ensures legal { OnOk result (IsLegal desk.old.broker.world desk.new.broker.entries) }
+        ensures same_world { OnOk result (desk.new.broker.world ≡ desk.old.broker.world) }
     {
         let Some(child) = self.child.take() else {
             unreachable!()
         };
-        let (child, came) = take_next(child, broker, h);
+        let (child, came) = take_next(child, desk, h);
         self.child = Some(child);
         match came {
             InTurn::Moved | InTurn::Closed => {
@@ -285,27 +355,29 @@ impl<P: Starter> HostSlot<P> {
         }
     }
 
-    /// The turn of host h where nobody else can do anything: what its child writes is read up to the end of a frame, and
-    /// said; or the host ends.
-    pub fn hear(&mut self, broker: &mut Broker, h: HostNo) -> Result<(), NoMemory>
-        requires legal { IsLegal broker.old.world broker.old.entries }
-        requires host { h.0 < length (hosts (reverse broker.old.entries)) }
-        requires stands { Stands (P.state self.old.starter).writing broker.old.world (reverse broker.old.entries) h (slot_of P.state self.old) }
+    /// The turn of host h where nobody else can do anything: what its child writes is read up to the end of a frame,
+    /// and said; or the host ends.
+    pub fn hear(&mut self, desk: &mut BrokerDesk, h: HostNo) -> Result<(), NoMemory>
+        requires legal { IsLegal desk.old.broker.world desk.old.broker.entries }
+        requires host { h.0 < length (hosts (reverse desk.old.broker.entries)) }
+        requires stands { Stands (P.state self.old.starter).writing desk.old.broker.world
+            (reverse desk.old.broker.entries) h (slot_of P.state self.old) }
         requires unspent { is_spent_at (slot_of P.state self.old) ≡ false }
         requires unended { self.old.ended ≡ false }
         requires started { WasStarted (slot_of P.state self.old) }
-        requires none_to_take { is_host_ready (reverse broker.old.entries) h ≡ false }
-        ensures turn { OnOk result (SaysOrEnds h (reverse broker.old.entries) (reverse broker.new.entries)) }
-        ensures stands { OnOk result (Stands (P.state self.old.starter).writing broker.old.world (reverse broker.new.entries) h (slot_of P.state self.new)) }
+        requires none_to_take { is_host_ready (reverse desk.old.broker.entries) h ≡ false }
+        ensures turn { OnOk result (SaysOrEnds h (reverse desk.old.broker.entries) (reverse desk.new.broker.entries)) }
+        ensures stands { OnOk result (Stands (P.state self.old.starter).writing desk.old.broker.world
+            (reverse desk.new.broker.entries) h (slot_of P.state self.new)) }
         ensures started { OnOk result (WasStarted (slot_of P.state self.new)) }
         ensures less { OnOk result (turns_left (slot_of P.state self.new) < turns_left (slot_of P.state self.old)) }
-        ensures legal { OnOk result (IsLegal broker.old.world broker.new.entries) }
-        ensures same_world { OnOk result (broker.new.world ≡ broker.old.world) }
+        ensures legal { OnOk result (IsLegal desk.old.broker.world desk.new.broker.entries) }
+        ensures same_world { OnOk result (desk.new.broker.world ≡ desk.old.broker.world) }
     {
         let Some(child) = self.child.take() else {
             unreachable!()
         };
-        let (child, came) = hear_next(child, broker, h);
+        let (child, came) = hear_next(child, desk, h);
         self.child = Some(child);
         match came {
             OutTurn::Moved => {
@@ -324,11 +396,12 @@ impl<P: Starter> HostSlot<P> {
 
     /// Finishes the child, where one was started: the slot's starter, with the host's record.
     pub fn finish(self) -> P
-        ensures { (P.state result).slot ≡ closing_record (slot_of P.state self) }
+        ensures { P.state result ≡ closing_starter (slot_of P.state self) }
     {
         let HostSlot {
             mut starter,
             child,
+            failed: _,
             made: _,
             ended: _,
         } = self;

@@ -4,7 +4,8 @@ use Rattle.std.specs.Prelude.{IsTrue, ◌==◌}
 use Rattle.std.proofs.lemmas.Bool.Decides.{nat_tests}
 use Rattle.std.proofs.lemmas.Option.{same_Some}
 use Rattle.wx_journal_read.specs.Reading.{Reader, behind, both_at, mapped, just, Rows, or_else, choice, choice_or}
-use Rattle.wx_journal_read.proofs.Fields.{Reads, ends_number, bind_some, behind_takes}
+use Rattle.wx_id.proofs.OptionLemmas.{bind_some}
+use Rattle.wx_journal_read.proofs.Fields.{Reads, ends_number, behind_takes}
 
 pub behind_again : (word rest : List ℕ) → behind word (word ++ rest) ≡ Some rest
 unfolding behind

@@ -10,7 +10,8 @@ use Rattle.wx_journal_text.specs.Text.{who_text, call_text, answer_text, entry_t
 use Rattle.wx_journal_read.specs.Reading.{behind, both_at}
 use Rattle.wx_journal_read.specs.Fits.{WhoFits, CallFits, AnswerFits, EntryFits}
 use Rattle.wx_journal_read.specs.Grammar.{sp, who_at, call_at, answer_at, entry_at}
-use Rattle.wx_journal_read.proofs.Fields.{Reads, bind_some, behind_takes}
+use Rattle.wx_id.proofs.OptionLemmas.{bind_some}
+use Rattle.wx_journal_read.proofs.Fields.{Reads, behind_takes}
 use Rattle.wx_journal_read.proofs.Combined.{Both, both_text, both_reads}
 use Rattle.wx_journal_read.proofs.Parts.{who_reads}
 use Rattle.wx_journal_read.proofs.Calls.{call_reads}

@@ -10,8 +10,10 @@ use Rattle.std.proofs.lemmas.List.{take_at, drop_at, take-append-drop, length-ta
 use Rattle.std.proofs.lemmas.Option.{cond_some}
 use Rattle.std.proofs.lemmas.Str.Parse.{IsNumeralModel, numerals_by_value, tells_all_ascii_digits}
 use Rattle.std.proofs.lemmas.Fmt.{digits_decimal, digits_value-decimal, decimal-digits_value, decimal_digit, decimal_nonempty, first_decimal}
+use Rattle.wx_id.proofs.OptionLemmas.{bind_some}
 use Rattle.wx_journal_text.specs.Text.{sized}
-use Rattle.wx_journal_read.specs.Reading.{◌>>=◌, Reader, behind, digits_of, after_digits, is_plain, number_at, text_at, sized_at}
+use Rattle.wx_id.specs.Options.{◌>>=◌}
+use Rattle.wx_journal_read.specs.Reading.{Reader, behind, digits_of, after_digits, is_plain, number_at, text_at, sized_at}
 
 -- what follows a number: anything that begins with no digit
 abbrev pub ends_number : List ℕ → Bool
@@ -21,10 +23,6 @@ ends_number (b ∷ bs) = not (is_ascii_digit b)
 pub record Reads {A : Type 0} (text : A → List ℕ) (Fits : A → Type 0) (read : Reader A) : Type 0 where
   pub takes : (bytes : List ℕ) (y : A × List ℕ) → read bytes ≡ Some y → Fits y.0 × (bytes ≡ text y.0 ++ y.1)
   pub again : (x : A) (rest : List ℕ) → Fits x → length (text x ++ rest) < 2 ^ 64 → IsTrue (ends_number rest) → read (text x ++ rest) ≡ Some (x, rest)
-
-pub bind_some : {A B : Type 0} (r : Option A) (f : A → Option B) (y : B) → (r >>= f) ≡ Some y → (x : A) × (r ≡ Some x) × (f x ≡ Some y)
-bind_some None f y e = absurd cc
-bind_some (Some x) f y e = (x, refl, e)
 
 -- ---- words
 

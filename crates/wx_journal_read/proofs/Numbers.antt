@@ -8,7 +8,8 @@ use Rattle.std.proofs.lemmas.Bool.{lt-ltb, ltb-true, ltb-false, le-ltb}
 use Rattle.std.proofs.lemmas.Str.{IsUtf8-from_ascii}
 use Rattle.std.proofs.lemmas.Str.Parse.{parse_digits}
 use Rattle.std.proofs.lemmas.Fmt.{IsAscii-from_digits}
-use Rattle.wx_journal_read.specs.Reading.{◌>>=◌, where_so, is_plain, digits_of, after_digits, number_at}
+use Rattle.wx_id.specs.Options.{◌>>=◌, where_so}
+use Rattle.wx_journal_read.specs.Reading.{is_plain, digits_of, after_digits, number_at}
 use Rattle.wx_journal_read.proofs.Fields.{own, plain_parts, two_parts}
 
 pub utf8_digits : (ds : List ℕ) → all_ascii_digits ds ≡ true → IsUtf8 ds

@@ -21,7 +21,8 @@ use Rattle.wx_context.specs.declared.contexts.Listens.{Listens}
 use Rattle.wx_machine.specs.declared.entries.Who.{Who}
 use Rattle.wx_machine.specs.declared.entries.Who.TheVariants.{Context as ByContext, Host as ByHost}
 use Rattle.wx_journal_text.specs.Text.{sized, who_text, frame_text, target_text, context_text, flag, listens_text}
-use Rattle.wx_journal_read.specs.Reading.{where_so, Reader, behind, sized_at, both_at}
+use Rattle.wx_id.specs.Options.{where_so}
+use Rattle.wx_journal_read.specs.Reading.{Reader, behind, sized_at, both_at}
 use Rattle.wx_journal_read.specs.Fits.{is_url, WhoFits, FrameFits, TargetFits, ContextFits}
 use Rattle.wx_journal_read.specs.Grammar.{n32, n64, sp, id_at, who_at, frame_at, target_at, page_at, content_at, web_at, context_at, flag_at, listens_at, who_rows, frame_rows, target_rows, context_rows, flag_rows}
 use Rattle.wx_journal_read.proofs.Fields.{Reads, ends_number, number_reads, sized_reads, own}

@@ -9,29 +9,11 @@ use Rattle.std.proofs.lemmas.List.Sums.{AllPass-from_list_all}
 use Rattle.std.proofs.lemmas.Str.{IsUtf8-from_ascii, is_utf8-from_IsUtf8, IsUtf8-from_is_utf8}
 use Rattle.std.proofs.lemmas.Slice.Eq.{bytes_eq-Decides}
 use Rattle.std.proofs.lemmas.Str.Ascii.{IsAscii-from_all}
+use Rattle.wx_context.proofs.PathLemmas.{paths_are_utf8}
 use Rattle.wx_context.specs.Paths.{is_page_path}
 use Rattle.wx_context.specs.WebUrls.{web_url_of, is_web_url}
 use Rattle.wx_journal_read.specs.Fits.{is_url}
-use Rattle.wx_journal_read.specs.Reading.{where_so}
-
-abbrev is_graphic : ℕ → Bool
-is_graphic b = nat_le 33 b && nat_le b 126
-
-graphic_is_ascii : (b : ℕ) → is_graphic b ≡ true → b < 128
-graphic_is_ascii b h = grind (arith, nat_tests)
-
-printable_all : (xs : List ℕ) → is_page_path xs ≡ true → list_all is_graphic xs ≡ true
-printable_all [] h = absurd cc
-printable_all (b ∷ bs) h =
-    let p = and_parts _ _ h in
-    let slash : b ≡ 47 = eqb-true _ _ p.0 in
-    rw slash p.1
-
--- a path is a text of UTF-8
-pub paths_are_utf8 : (xs : List ℕ) → is_page_path xs ≡ true → IsUtf8 xs
-paths_are_utf8 xs h =
-    let pass : AllPass is_graphic xs = AllPass-from_list_all is_graphic xs (printable_all xs h) in
-    IsUtf8-from_ascii xs (IsAscii-from_all xs (λ k d within. graphic_is_ascii (get_or xs k d) (pass k d within)))
+use Rattle.wx_id.specs.Options.{where_so}
 
 -- ---- what the test of a sort gives
 

@@ -25,7 +25,8 @@ use Rattle.wx_machine.specs.declared.entries.Answer.{Answer}
 use Rattle.wx_machine.specs.declared.entries.Answer.TheVariants.{Entered, Channel as OnChannel, Request as OnRequest, Event as Told, Text as HasText, Done, Gone, BadTarget, Forbidden, NoReceiver, Posted, NoPort, PortClosed, TooLong, NoEffect, First, Late, NotYours, Empty, NoPermission, BadHostName, HostNotFound, HostForbidden, End as NoMore, Passed, Ignored, Already}
 use Rattle.wx_machine.specs.declared.entries.Entry.{Entry}
 use Rattle.wx_journal_read.specs.Fits.{is_url}
-use Rattle.wx_journal_read.specs.Reading.{◌>>=◌, where_so, Reader, Rows, behind, number_at, sized_at, both_at, mapped, just, choice, choice_or}
+use Rattle.wx_id.specs.Options.{◌>>=◌, where_so}
+use Rattle.wx_journal_read.specs.Reading.{Reader, Rows, behind, number_at, sized_at, both_at, mapped, just, choice, choice_or}
 
 -- numbers
 abbrev pub n32 : Reader ℕ

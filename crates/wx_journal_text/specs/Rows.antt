@@ -1,8 +1,8 @@
 -- Worked examples of a journal's text.
 use Rattle.std.specs.Prelude.{◌≡◌, ◌++◌, [], reverse, codes}
-use Rattle.wx_external.specs.World.{WorldLists}
+use Rattle.wx_external.specs.World.{WorldLists, empty_world}
 use Rattle.wx_machine.specs.Answers.{made_of}
-use Rattle.wx_machine.specs.Rows.{one_connection_calls, first_reply_calls, tabs_and_frames_calls, from_outside_calls, no_manifests, host_replies_calls, host_ends_calls, with_hosts}
+use Rattle.wx_machine.specs.Rows.{one_connection_calls, first_reply_calls, tabs_and_frames_calls, from_outside_calls, host_replies_calls, host_ends_calls, with_hosts}
 use Rattle.wx_journal_text.specs.Text.{journal_text}
 
 -- two pages, one connection, one posted number
@@ -28,7 +28,7 @@ TabsAndFramesText =
 -- calls from another extension and from a web page
 abbrev pub FromOutsideText : Type 0
 FromOutsideText =
-    journal_text (reverse (made_of no_manifests from_outside_calls []))
+    journal_text (reverse (made_of empty_world from_outside_calls []))
     ≡ codes "wx journal 1 chrome\nc0 enter page aaaaaaaaaaaaaaaaaaaaaaaaaaaaaaaa 2:/p -> context 0\nc0 listen --C- -> done\nc1 enter page bbbbbbbbbbbbbbbbbbbbbbbbbbbbbbbb 2:/q -> context 1\nc2 enter web 7 0 12:https://a.b/ -> context 2\n"
     ++ codes "c1 connect ext aaaaaaaaaaaaaaaaaaaaaaaaaaaaaaaa 0: -> channel 0\nc2 connect ext aaaaaaaaaaaaaaaaaaaaaaaaaaaaaaaa 0: -> forbidden url\nc0 take -> connected 0 4\nc1 leave -> done\nc2 connect own 0: -> bad_target\n"
 

@@ -8,7 +8,8 @@ use Rattle.wx_id.specs.declared.events.EventKind.TheVariants.{Connected, Message
 use Rattle.wx_context.specs.declared.contexts.Context.TheVariants.{Page, Content, Web}
 use Rattle.wx_context.specs.declared.contexts.Target.TheVariants.{Own, Other, Tab}
 use Rattle.wx_external.specs.declared.gates.Rule.TheVariants.{Url}
-use Rattle.wx_external.specs.World.{WorldLists}
+use Rattle.wx_external.specs.World.{WorldLists, empty_world}
+use Rattle.wx_external.specs.Worked.{id_a, id_b}
 use Rattle.wx_external.specs.declared.world.Installed.{Installed}
 use Rattle.wx_machine.specs.declared.entries.Who.{Who}
 use Rattle.wx_machine.specs.declared.entries.Who.TheVariants.{Context as ByContext, Host as ByHost}
@@ -23,9 +24,6 @@ use Rattle.wx_machine.specs.Answers.{made_of}
 
 abbrev pub by : ℕ → Call → Who × Call
 by n call = (ByContext (record { 0 = n }), call)
-
-abbrev pub id_a : List ℕ
-id_a = codes "aaaaaaaaaaaaaaaaaaaaaaaaaaaaaaaa"
 
 abbrev pub a_page : List ℕ → Call
 a_page path = Enter (Page id_a path)
@@ -192,13 +190,6 @@ TabsAndFrames =
     ≡ entered 0 ∷ Done ∷ entered 1 ∷ Done ∷ entered 2
     ∷ NoReceiver ∷ OnChannel (channel 0) ∷ told 6 (Connected (channel 0)) ∷ OnChannel (channel 1) ∷ told 8 (Connected (channel 1)) ∷ told 8 (Connected (channel 1)) ∷ []
 
-abbrev pub id_b : List ℕ
-id_b = codes "bbbbbbbbbbbbbbbbbbbbbbbbbbbbbbbb"
-
--- where no extension has a manifest
-abbrev pub no_manifests : WorldLists
-no_manifests = record { extensions = []; hosts = [] }
-
 abbrev pub connect_to_a : Call
 connect_to_a = Connect (Other id_a) []
 
@@ -211,14 +202,14 @@ from_outside_calls =
 -- a page that listens to connections from outside hears another extension; no web page may call its extension, nor an extension of its own
 abbrev pub FromOutside : Type 0
 FromOutside =
-    answers_to no_manifests from_outside_calls
+    answers_to empty_world from_outside_calls
     ≡ entered 0 ∷ Done ∷ entered 1 ∷ entered 2
     ∷ OnChannel (channel 0) ∷ Forbidden Url ∷ told 4 (Connected (channel 0)) ∷ Done ∷ BadTarget ∷ []
 
 -- what listens to its own extension alone does not hear another one
 abbrev pub OwnFlagsServeOwnCalls : Type 0
 OwnFlagsServeOwnCalls =
-    answers_to no_manifests
+    answers_to empty_world
     (by 0 (a_page (codes "/p")) ∷ by 0 listen_connect ∷ by 1 (Enter (Page id_b (codes "/q"))) ∷ by 1 connect_to_a ∷ [])
     ≡ entered 0 ∷ Done ∷ entered 1 ∷ NoReceiver ∷ []
 

@@ -13,6 +13,12 @@ use Rattle.wx_outside.specs.declared.shelf.ShelfFault.TheVariants.{Failed}
 abbrev pub Files : Type 0
 Files = map.FinMap (slice_cmp nat_cmp) (List ℕ)
 
+-- what a shelf tells: its files, where it tells them; and how many reads were made of it, and how many have failed
+pub record ShelfState : Type 0 where
+  pub files : Option Files
+  pub reads : ℕ
+  pub faults : ℕ
+
 -- what stands under a name
 pub data Content : Type 0 where
   present : List ℕ → Content

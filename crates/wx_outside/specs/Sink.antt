@@ -3,6 +3,11 @@ use Rattle.std.specs.Prelude.{◌≡◌, ℕ, ◌≤◌, List, ◌++◌, length,
 use Rattle.std.specs.Option.{option_map}
 use Rattle.wx_outside.specs.Causes.{Rose}
 
+-- what a sink tells: what it was written, where it tells that; and how many writes have failed
+pub record SinkState : Type 0 where
+  pub written : Option (List ℕ)
+  pub faults : ℕ
+
 -- what was written, and these bytes after it
 abbrev pub added : Option (List ℕ) → List ℕ → Option (List ℕ)
 added written bytes = option_map (λ before. before ++ bytes) written

@@ -12,6 +12,7 @@ use std::rt::Files;
 #[derive(Drop)]
 pub struct FileShelf<'a, R> {
     runtime: &'a R,
+    reads: u64,
     faults: u64,
 }
 
@@ -20,7 +21,11 @@ impl<'a, R: Files + Input> FileShelf<'a, R> {
     pub fn new(runtime: &'a R) -> Self
         ensures { Self.faults result ≡ 0 }
     {
-        FileShelf { runtime, faults: 0 }
+        FileShelf {
+            runtime,
+            reads: 0,
+            faults: 0,
+        }
     }
 }
 
@@ -79,15 +84,14 @@ fn open_and_read<R: Files + Input>(
 }
 
 impl<'a, R: Files + Input> Shelf for FileShelf<'a, R> {
-    ghost files = { λ _. None };
-
-    ghost faults = { λ s. s.faults };
+    ghost state = { λ s. record { files = None; reads = s.reads; faults = s.faults } };
 
     fn faults(&self) -> u64 {
         self.faults
     }
 
     fn read(&mut self, alloc: Global, name: &str) -> Result<Found, ShelfFault> {
+        self.reads = self.reads.saturating_add(1);
         let result = open_and_read(self.runtime, alloc, name);
         if let Err(ShelfFault::Failed) = &result {
             self.faults = self.faults.saturating_add(1);

@@ -37,9 +37,7 @@ pub struct MemoryShelf {
 }
 
 impl Shelf for MemoryShelf {
-    ghost files = { λ s. Some (files_of s.files.items) };
-
-    ghost faults = { λ s. s.faults };
+    ghost state = { λ s. record { files = Some (files_of s.files.items); reads = s.reads; faults = s.faults } };
 
     fn faults(&self) -> u64 {
         self.faults
@@ -78,9 +76,7 @@ pub struct MemorySink {
 }
 
 impl Sink for MemorySink {
-    ghost written = { λ s. Some s.bytes.items };
-
-    ghost faults = { λ s. s.faults };
+    ghost state = { λ s. record { written = Some s.bytes.items; faults = s.faults } };
 
     fn faults(&self) -> u64 {
         self.faults

@@ -26,23 +26,22 @@ pub enum ShelfFault {
 
 /// Files under names. Some shelves tell what they hold; what a file system holds is not known.
 pub trait Shelf {
-    ghost use Rattle.std.specs.Prelude.{◌≡◌, ℕ, Option, IfOk};
-    ghost use Rattle.wx_outside.specs.Shelf.{Files, content, Reads, IsWithinLimit, HasCause};
+    ghost use Rattle.std.specs.Prelude.{◌≡◌, IfOk};
+    ghost use Rattle.wx_outside.specs.Causes.{counted};
+    ghost use Rattle.wx_outside.specs.Shelf.{ShelfState, content, Reads, IsWithinLimit, HasCause};
 
-    /// The files, where it tells them.
-    ghost files: { Self → Option Files };
-
-    /// How many reads have failed.
-    ghost faults: { Self → ℕ };
+    /// The files, where it tells them, how many reads were made, and how many have failed.
+    ghost state: { Self → ShelfState };
 
     /// How many reads have failed. The count never falls.
     fn faults(&self) -> u64
-        ensures { result ≡ faults self.now };
+        ensures { result ≡ (state self.now).faults };
 
     /// What stands under a name.
     fn read(&mut self, alloc: Global, name: &str) -> Result<Found, ShelfFault>
-        ensures reads { Reads (files self.old) name.now result }
+        ensures reads { Reads (state self.old).files name.now result }
         ensures within { IfOk result (λ found. IsWithinLimit (content found)) }
-        ensures unchanged { files self.new ≡ files self.old }
-        ensures cause { HasCause (faults self.old) (faults self.new) result };
+        ensures unchanged { (state self.new).files ≡ (state self.old).files }
+        ensures one_more { (state self.new).reads ≡ counted (state self.old).reads }
+        ensures cause { HasCause (state self.old).faults (state self.new).faults result };
 }

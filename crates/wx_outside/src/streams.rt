@@ -38,9 +38,7 @@ fn write_whole<W: Write>(inner: &mut W, bytes: &[u8]) -> bool {
 }
 
 impl<W: Write> Sink for StreamSink<W> {
-    ghost written = { λ _. None };
-
-    ghost faults = { λ s. s.faults };
+    ghost state = { λ s. record { written = None; faults = s.faults } };
 
     fn faults(&self) -> u64 {
         self.faults

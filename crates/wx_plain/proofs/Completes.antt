@@ -34,7 +34,7 @@ same_output a b e = cc
 agrees : OneAnswerLaw → (words : List (List ℕ)) (shelf : ShelfChange) (out err : SinkChange) (output : Output) (answer : Result Output InputKind) → NothingIsWrong words shelf out err output → Answered words shelf answer → answer ≡ Ok output
 agrees law words shelf out err output answer fine found =
     let same : found.command ≡ fine.command = same_command found.command fine.command (sym found.asked ∙ fine.asked) in
-    law shelf.files fine.command answer (Ok output) fine.told (subst (λ (c : PlainCommand). Answers shelf.files c answer) same found.answers) fine.answers
+    law shelf.before.files fine.command answer (Ok output) fine.told (subst (λ (c : PlainCommand). Answers shelf.before.files c answer) same found.answers) fine.answers
   where
     same_command : (a b : PlainCommand) → Some a ≡ Some b → a ≡ b
     same_command a b e = cc

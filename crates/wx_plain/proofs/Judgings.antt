@@ -22,7 +22,7 @@ pub comes_to : (Fact : Result Output InputKind → Type 0) (answer : Result outp
 comes_to Fact answer verdict is h = subst (λ (v : Verdict). ComesTo Fact v) (sym is) (says_verdict Fact answer h)
 
 -- what stands under the file's name was read
-pub file_judged : (what : Asked) (file : List ℕ) (shelf : ShelfChange) (content : Content) (verdict : Verdict) → Tells shelf.files file content → ComesTo (FileAnswers (BytesAnswers what) content) verdict → FileJudged what file shelf verdict
+pub file_judged : (what : Asked) (file : List ℕ) (shelf : ShelfChange) (content : Content) (verdict : Verdict) → Tells shelf.before.files file content → ComesTo (FileAnswers (BytesAnswers what) content) verdict → FileJudged what file shelf verdict
 file_judged what file shelf content (answered o) tells h = (content, tells, h)
 file_judged what file shelf content (refused kind) tells h = (content, tells, h)
 file_judged what file shelf content no_memory tells h = h

@@ -11,7 +11,7 @@ use Rattle.std.specs.FinMap as map
 use Rattle.std.proofs.lemmas.Bool.Decides.{nat_tests}
 use Rattle.wx_outside.specs.Shelf.{Files, Content, present, absent, too_large, limit, Tells, content_at, content_of, IsWithinLimit}
 use Rattle.wx_status.specs.declared.status.InputKind.{InputKind}
-use Rattle.wx_words.specs.Words.{PlainCommand, matching, framing, reporting}
+use Rattle.wx_words.specs.Words.{PlainCommand, matching, framing, reporting, helping, versioning}
 use Rattle.wx_plain.specs.declared.frames.FramesEnd.{FramesEnd}
 use Rattle.wx_plain.specs.declared.frames.FramesEnd.TheVariants.{Whole, TooLong, BadJson, Cut}
 use Rattle.wx_plain.specs.Output.{Output}
@@ -114,3 +114,5 @@ pub one_answer_of : OneSplitLaw → OneTroubleLaw → DifferentTextsLaw → (fil
 one_answer_of split trouble texts files (matching pattern url) a b told h k = one_match (pattern_in pattern) (url_in url) a b h k
 one_answer_of split trouble texts files (framing file) a b told h k = one_told FramesAnswers (λ bytes a b within h k. one_frames split trouble bytes a b h k) files told.0 file a b told.1 h k
 one_answer_of split trouble texts files (reporting file) a b told h k = one_told ReportAnswers (one_report texts) files told.0 file a b told.1 h k
+one_answer_of split trouble texts files helping a b told h k = h ∙ sym k
+one_answer_of split trouble texts files versioning a b told h k = h ∙ sym k

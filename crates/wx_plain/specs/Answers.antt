@@ -5,8 +5,9 @@ use Rattle.wx_journal_read.specs.declared.fault.JournalFault.{JournalFault}
 use Rattle.wx_journal_read.specs.Faults.{IsFault}
 use Rattle.wx_status.specs.declared.status.InputKind.{InputKind}
 use Rattle.wx_status.specs.declared.status.InputKind.TheVariants as input
-use Rattle.wx_words.specs.Words.{PlainCommand, matching, framing, reporting}
+use Rattle.wx_words.specs.Words.{PlainCommand, matching, framing, reporting, helping, versioning}
 use Rattle.wx_plain.specs.Output.{Output}
+use Rattle.wx_plain.specs.About.{text_answer, help_text, version_text}
 use Rattle.wx_plain.specs.Matching.{pattern_in, url_in, MatchAnswers}
 use Rattle.wx_plain.specs.Framing.{IsFramesOutput}
 use Rattle.wx_plain.specs.Reporting.{IsReportOutput}
@@ -35,3 +36,5 @@ abbrev pub Answers : Option Files → PlainCommand → Result Output InputKind �
 Answers files (matching pattern url) answer = MatchAnswers (pattern_in pattern) (url_in url) answer
 Answers files (framing file) answer = ToldAnswers FramesAnswers files file answer
 Answers files (reporting file) answer = ToldAnswers ReportAnswers files file answer
+Answers files helping answer = answer ≡ text_answer help_text
+Answers files versioning answer = answer ≡ text_answer version_text

@@ -1,8 +1,7 @@
 -- What an answer comes to as a verdict.
 use Rattle.std.specs.Prelude.{◌≡◌, ℕ, List, Result, Ok, Err}
-use Rattle.wx_outside.specs.Causes.{Rose}
 use Rattle.wx_status.specs.declared.status.InputKind.{InputKind}
-use Rattle.wx_status.specs.Changes.{ShelfChange}
+use Rattle.wx_status.specs.Changes.{ShelfChange, HasReadFailed}
 use Rattle.wx_plain.specs.Output.{Output}
 use Rattle.wx_plain.specs.declared.top.Asked.{Asked}
 use Rattle.wx_plain.specs.declared.top.Asked.TheVariants as asked
@@ -24,8 +23,8 @@ BytesAnswers asked.Report = ReportAnswers
 
 -- a file, as far as the shelf tells, comes to an output, a refusal or want of memory; or a read failed
 abbrev pub FileJudged : Asked → List ℕ → ShelfChange → Verdict → Type 0
-FileJudged what file shelf (answered output) = ToldAnswers (BytesAnswers what) shelf.files file (Ok output)
-FileJudged what file shelf (refused kind) = ToldAnswers (BytesAnswers what) shelf.files file (Err kind)
+FileJudged what file shelf (answered output) = ToldAnswers (BytesAnswers what) shelf.before.files file (Ok output)
+FileJudged what file shelf (refused kind) = ToldAnswers (BytesAnswers what) shelf.before.files file (Err kind)
 FileJudged what file shelf no_memory = Unit {0}
 FileJudged what file shelf usage = ⊥
-FileJudged what file shelf (read_fault name) = (name ≡ file) × Rose shelf.faults_before shelf.faults_after
+FileJudged what file shelf (read_fault name) = (name ≡ file) × HasReadFailed shelf

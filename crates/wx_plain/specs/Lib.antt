@@ -1,4 +1,5 @@
 pub mod Output
+pub mod About
 pub mod Matching
 pub mod Framing
 pub mod Reporting

@@ -1,6 +1,7 @@
 //! The commands that make no run: what they are asked, what they answer, and how that is told.
 #![tactic(auto)]
 
+mod about;
 mod frames;
 mod laws;
 mod matching;

@@ -37,7 +37,8 @@ fn put_entry(out: &mut Vec<u8>, entry: Option<EntryNo>) -> Result<(), AllocError
 
 /// The end of a channel's line.
 fn put_counts(out: &mut Vec<u8>, posted: u64, taken: u64) -> Result<(), AllocError>
-    ensures { OnOk result (out.new.items ≡ out.old.items ++ (codes "posted" ␣ decimal posted ␣ codes "taken" ␣ (decimal taken ++ codes "\n"))) }
+    ensures { OnOk result (out.new.items
+        ≡ out.old.items ++ (codes "posted" ␣ decimal posted ␣ codes "taken" ␣ (decimal taken ++ codes "\n"))) }
 {
     put_count(out, b"posted", posted)?;
     put(out, b"taken ")?;
@@ -95,7 +96,8 @@ fn put_request(out: &mut Vec<u8>, r: u64, report: RequestReport) -> Result<(), A
 
 /// The line of channel k, where there is one.
 fn put_channel_no(out: &mut Vec<u8>, journal: &Journal, k: u64) -> Result<(), AllocError>
-    ensures { OnOk result (out.new.items ≡ out.old.items ++ reporting.channel_lines k (port_report (reverse journal.now.entries) k)) }
+    ensures { OnOk result (out.new.items
+        ≡ out.old.items ++ reporting.channel_lines k (port_report (reverse journal.now.entries) k)) }
 {
     match journal.port_report(ChannelNo(k)) {
         Some(report) => put_channel(out, k, report),
@@ -105,7 +107,8 @@ fn put_channel_no(out: &mut Vec<u8>, journal: &Journal, k: u64) -> Result<(), Al
 
 /// The line of request r, where there is one.
 fn put_request_no(out: &mut Vec<u8>, journal: &Journal, r: u64) -> Result<(), AllocError>
-    ensures { OnOk result (out.new.items ≡ out.old.items ++ reporting.request_lines r (request_report (reverse journal.now.entries) r)) }
+    ensures { OnOk result (out.new.items
+        ≡ out.old.items ++ reporting.request_lines r (request_report (reverse journal.now.entries) r)) }
 {
     match journal.request_report(RequestNo(r)) {
         Some(report) => put_request(out, r, report),
@@ -115,7 +118,9 @@ fn put_request_no(out: &mut Vec<u8>, journal: &Journal, r: u64) -> Result<(), Al
 
 /// The lines of the channels. Each walks the whole journal.
 fn put_channels(out: &mut Vec<u8>, journal: &Journal) -> Result<(), AllocError>
-    ensures { OnOk result (out.new.items ≡ out.old.items ++ reporting.lines_below (length (channels (reverse journal.now.entries))) (λ k. reporting.channel_lines k (port_report (reverse journal.now.entries) k))) }
+    ensures { OnOk result (out.new.items
+        ≡ out.old.items ++ reporting.lines_below (length (channels (reverse journal.now.entries)))
+        (λ k. reporting.channel_lines k (port_report (reverse journal.now.entries) k))) }
 {
     for k in 0..channels::count(journal.entries()) {
         put_channel_no(out, journal, k)?;
@@ -125,7 +130,9 @@ fn put_channels(out: &mut Vec<u8>, journal: &Journal) -> Result<(), AllocError>
 
 /// The lines of the requests. Each walks the whole journal.
 fn put_requests(out: &mut Vec<u8>, journal: &Journal) -> Result<(), AllocError>
-    ensures { OnOk result (out.new.items ≡ out.old.items ++ reporting.lines_below (length (requests (reverse journal.now.entries))) (λ r. reporting.request_lines r (request_report (reverse journal.now.entries) r))) }
+    ensures { OnOk result (out.new.items
+        ≡ out.old.items ++ reporting.lines_below (length (requests (reverse journal.now.entries)))
+        (λ r. reporting.request_lines r (request_report (reverse journal.now.entries) r))) }
 {
     for r in 0..requests::count(journal.entries()) {
         put_request_no(out, journal, r)?;

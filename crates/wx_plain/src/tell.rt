@@ -3,6 +3,7 @@ ghost use Rattle.wx_plain.specs.Output as outputs;
 ghost use Rattle.wx_plain.specs.Told.{Told};
 ghost use Rattle.wx_plain.specs.Verdict.{no_memory};
 ghost use Rattle.wx_plain.specs.View.{verdict_view};
+ghost use Rattle.wx_status.specs.Changes.{over};
 
 use crate::verdict::Verdict;
 use std::alloc::Global;
@@ -24,11 +25,9 @@ pub(crate) fn tell<O: Sink, E: Sink>(
     err: &mut E,
 ) -> Status
     ensures { Told (verdict_view verdict.entry)
-        (record { before = O.written out.old; after = O.written out.new; faults_before = O.faults out.old; faults_after = O.faults out.new })
-        (record { before = E.written err.old; after = E.written err.new; faults_before = E.faults err.old; faults_after = E.faults err.new }) result
+        (over (O.state out.old) (O.state out.new)) (over (E.state err.old) (E.state err.new)) result
         ⊎ Told no_memory
-        (record { before = O.written out.old; after = O.written out.new; faults_before = O.faults out.old; faults_after = O.faults out.new })
-        (record { before = E.written err.old; after = E.written err.new; faults_before = E.faults err.old; faults_after = E.faults err.new }) result }
+        (over (O.state out.old) (O.state out.new)) (over (E.state err.old) (E.state err.new)) result }
 {
     match verdict {
         Verdict::Usage => tell_line(Status::Usage, b"wx: usage\n", err),

@@ -60,7 +60,19 @@ fn play_row<O: Sink>(
     }
 }
 
-/// The same of each row of a file's text.
+/// Tells that nothing can be played of a file, and why.
+fn tell_fault<O: Sink>(
+    alloc: Global,
+    file: &str,
+    why: &str,
+    to: &mut O,
+) -> Result<Played, AllocError> {
+    let line = format!(in alloc; "no {file}: {why}\n")?;
+    let _ = to.write(line.as_bytes());
+    Ok(Played::Otherwise)
+}
+
+/// Plays the rows of a file's text.
 fn play_text<O: Sink>(
     alloc: Global,
     file: &str,
@@ -70,9 +82,8 @@ fn play_text<O: Sink>(
     let rows = match rows_of(alloc, text) {
         Ok(rows) => rows,
         Err(DataFault::Line(number)) => {
-            let line = format!(in alloc; "no {file}: line {number} has no form\n")?;
-            let _ = to.write(line.as_bytes());
-            return Ok(Played::Otherwise);
+            let why = format!(in alloc; "line {number} has no form")?;
+            return tell_fault(alloc, file, why.as_str(), to);
         }
         Err(DataFault::NoMemory) => return Err(AllocError),
     };
@@ -85,20 +96,22 @@ fn play_text<O: Sink>(
     Ok(all)
 }
 
-/// The same of each file.
+/// Plays the rows of a file.
+fn play_file<O: Sink>(rt: &HostRuntime, file: &str, to: &mut O) -> Result<Played, AllocError> {
+    if let Ok(Found::Bytes(bytes)) = FileShelf::new(rt).read(rt.alloc(), file) {
+        if let Ok(text) = str::from_utf8(&bytes) {
+            return play_text(rt.alloc(), file, text, to);
+        }
+    }
+    tell_fault(rt.alloc(), file, "no text is there", to)
+}
+
+/// Plays all files, also after one that did not give what it expects.
 fn play_files(rt: &HostRuntime) -> Result<Played, AllocError> {
-    let mut shelf = FileShelf::new(rt);
     let mut to = StreamSink::new(rt.stdout());
     let mut all = Played::AsExpected;
     for file in FILES {
-        let played = match shelf.read(rt.alloc(), file) {
-            Ok(Found::Bytes(bytes)) => match str::from_utf8(&bytes) {
-                Ok(text) => play_text(rt.alloc(), file, text, &mut to)?,
-                Err(_) => Played::Otherwise,
-            },
-            _ => Played::Otherwise,
-        };
-        if played == Played::Otherwise {
+        if play_file(rt, file, &mut to)? == Played::Otherwise {
             all = Played::Otherwise;
         }
     }

@@ -1,14 +1,14 @@
 -- Slots for the hosts that have none.
 use Rattle.std.proofs.Common.{◌≡◌, ℕ, ◌+◌, ◌-◌, ◌*◌, ◌<◌, ◌≤◌, length, take, cond, arith, Bool, true, List, [], ◌∷◌, ◌++◌, refl, sym, ap, ◌∙◌, subst, append_assoc, append-nil}
 use Rattle.std.specs.Prelude.{Some, None}
-use Rattle.std.proofs.lemmas.List.{length-append, take_at}
+use Rattle.std.proofs.lemmas.List.{length-append, take-append-le}
 use Rattle.wx_external.specs.World.{WorldLists}
 use Rattle.wx_machine.specs.declared.entries.Entry.{Entry}
 use Rattle.wx_machine.specs.Hosts.{hosts}
 use Rattle.wx_host_launch.specs.Records.{StarterState, slot_like, with_place}
 use Rattle.wx_host_slot.specs.Slots.{SlotState, waiting_slot, turns_left, host_limit}
 use Rattle.wx_run.specs.Hosts.{host_numbered}
-use Rattle.wx_run.specs.Slots.{HostsStand, AllWereStarted, AddsBehind, first_spent_slot, all_turns_left, keeping}
+use Rattle.wx_run.specs.Slots.{HostsStand, AllWereStarted, WereStartedBelow, AddsBehind, first_spent_slot, all_turns_left, keeping}
 use Rattle.wx_run.proofs.SlotLemmas.{hosts_stand_append, spent_split}
 
 -- slots were added so far, with waiting hosts, and a place was kept for each
@@ -34,8 +34,11 @@ adds_on : (old slots : List SlotState) (q : SlotState) → AddsBehind old slots 
 adds_on old slots q added = (added.0 ++ q ∷ [], ap (λ s. s ++ q ∷ []) added.1 ∙ append_assoc old added.0 (q ∷ []))
 
 -- the old slots, which stand in front, were started
-pub were_started : (old new : List SlotState) (known : ℕ) → length old ≡ known → AddsBehind old new → AllWereStarted old → AllWereStarted (take known new)
-were_started old new known is added all = subst AllWereStarted (sym (take_at old added.0 known is) ∙ ap (λ slots. take known slots) (sym added.1)) all
+pub were_started : (old new : List SlotState) (known : ℕ) → AddsBehind old new → WereStartedBelow known old → AllWereStarted (take known new)
+were_started old new known added started = subst AllWereStarted (sym (take-append-le known old added.0 started.0) ∙ ap (λ slots. take known slots) (sym added.1)) started.1
+
+pub none_below : (slots : List SlotState) → WereStartedBelow 0 slots
+none_below slots = (omega arith, tt)
 
 pub adding_begins : (world : WorldLists) (past : List Entry) (start : StarterState) (slots : List SlotState) → HostsStand start.writing world past slots → AddedSoFar world past start start slots slots
 adding_begins world past start slots stand =

@@ -48,25 +48,26 @@ by_hosts_grow a b grows = (grows.newer, grows.grown)
 
 -- ---- rounds
 
-Round_grows : (ss : List (List Command)) (a b : List Entry) → Round ss a b → Grows a b
-Round_grows ss a b round = elim round [
-  | of_all between turns host_turns moved ↦ grows_on a between b (Turns_grow ss 0 a between turns) (by_hosts_grow between b (host_turns_stay (length (hosts a)) (length (hosts between)) between b host_turns))
+Round_grows : (known : ℕ) (ss : List (List Command)) (a b : List Entry) → Round known ss a b → Grows a b
+Round_grows known ss a b round = elim round [
+  | of_all between turns host_turns moved ↦ grows_on a between b (Turns_grow ss 0 a between turns) (by_hosts_grow between b (host_turns_stay known (length (hosts between)) between b host_turns))
   | of_first_host idle none_ready h first turn ↦ by_hosts_grow a b (says_stays h a b turn)
 ]
 
-FirstTurns_grow : (ss : List (List Command)) (a b : List Entry) → FirstTurns ss a b → Grows a b
-FirstTurns_grow ss a b turns = elim turns [
+FirstTurns_grow : (known : ℕ) (ss : List (List Command)) (a b : List Entry) → FirstTurns known ss a b → Grows a b
+FirstTurns_grow known ss a b turns = elim turns [
   | of_endpoints count made ↦ Turns_grow (take count ss) 0 a b made
-  | of_hosts between count made within host_turns ↦ grows_on a between b (Turns_grow ss 0 a between made) (by_hosts_grow between b (host_turns_stay (length (hosts a)) count between b host_turns))
-  | whole round ↦ Round_grows ss a b round
+  | of_hosts between count made within host_turns ↦ grows_on a between b (Turns_grow ss 0 a between made) (by_hosts_grow between b (host_turns_stay known count between b host_turns))
+  | whole round ↦ Round_grows known ss a b round
 ]
 
-pub Rounds_grow : (n : ℕ) (ss : List (List Command)) (a b : List Entry) → Rounds n ss a b → Grows a b
-Rounds_grow zero ss a b rounds = elim rounds [
+pub Rounds_grow : (n known : ℕ) (ss : List (List Command)) (a b : List Entry) → Rounds n known ss a b → Grows a b
+Rounds_grow zero known ss a b rounds = elim rounds [
   | inl over ↦ ([], over.same)
-  | inr cut ↦ FirstTurns_grow ss a b cut.turns
+  | inr cut ↦ FirstTurns_grow known ss a b cut.turns
 ]
-Rounds_grow (suc n) ss a b rounds = grows_on a rounds.0 b (Round_grows ss a rounds.0 rounds.1) (Rounds_grow n ss rounds.0 b rounds.3)
+Rounds_grow (suc n) known ss a b rounds =
+    grows_on a rounds.0 b (Round_grows known ss a rounds.0 rounds.1) (Rounds_grow n (length (hosts rounds.0)) ss rounds.0 b rounds.3)
 
 longer : (e : Entry) (newer a b : List Entry) → b ≡ e ∷ newer ++ a → b ≡ a → ⊥
 longer e newer a b grown same =

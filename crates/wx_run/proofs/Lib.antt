@@ -4,6 +4,7 @@ pub mod SlotLemmas
 pub mod ServeLemmas
 pub mod AddLemmas
 pub mod FinishLemmas
+pub mod LawLemmas
 pub mod ViewLemmas
 pub mod SeenLemmas
 pub mod CursorLemmas

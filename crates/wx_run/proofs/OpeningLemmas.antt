@@ -1,13 +1,14 @@
 -- One more endpoint of the opening.
 use Rattle.std.proofs.Common.{◌≡◌, ◌≢◌, ℕ, ◌+◌, ◌<◌, ◌≤◌, length, take, cond, arith, Bool, true, false, List, [], ◌∷◌, ◌++◌, Some, None, refl, sym, ap, ◌∙◌, subst, append_assoc, append-nil}
 use Rattle.std.specs.declared.option.Option.{Option}
-use Rattle.std.specs.Prelude.{slice_get, reverse, ◌&&◌, ◌||◌, not, nat_le, option_to_list}
+use Rattle.std.specs.Prelude.{Result, Ok, Err, IfOk, OnErr, slice_get, reverse, ◌&&◌, ◌||◌, not, nat_le, option_to_list}
 use Rattle.std.specs.Option.{option_map, option_or}
 use Rattle.std.proofs.lemmas.Bool.{eq-eqb}
 use Rattle.std.proofs.lemmas.List.{reverse-append, length-map}
 use Rattle.std.proofs.lemmas.Option.{slice_get-map}
 use Rattle.std.proofs.Math.Seq.{take-length}
 use Rattle.wx_id.specs.declared.numbers.ContextNo.{ContextNo}
+use Rattle.wx_id.specs.declared.numbers.EntryNo.{EntryNo}
 use Rattle.wx_id.specs.declared.numbers.HostNo.{HostNo}
 use Rattle.wx_external.specs.World.{WorldLists}
 use Rattle.wx_context.specs.declared.contexts.Context.{Context}
@@ -21,7 +22,9 @@ use Rattle.wx_machine.specs.Answers.{IsLegal, FollowsMachine, answer_after}
 use Rattle.wx_machine.specs.Each.{EachAfter}
 use Rattle.wx_machine.specs.Hosts.{hosts, is_by_host}
 use Rattle.wx_broker.specs.State.{BrokerState}
-use Rattle.wx_broker.specs.Steps.{Appends}
+use Rattle.wx_broker.specs.Steps.{Appends, Stays}
+use Rattle.wx_desk.specs.BrokerDesks.{has_lent}
+use Rattle.wx_desk.proofs.OverLemmas.{lent_later, lent_same}
 use Rattle.wx_laws.proofs.Keeping.{legal_keeps_laws}
 use Rattle.wx_host_launch.specs.Records.{Writing}
 use Rattle.wx_host_slot.specs.Journals.{entries_of}
@@ -35,7 +38,8 @@ use Rattle.wx_script.specs.Places.{outside, place_of, place_behind, at_start, is
 use Rattle.wx_script.specs.Carries.{MayCome}
 use Rattle.wx_script.specs.Ends.{numbered, entries_by, entry_limit, is_idle}
 use Rattle.wx_script.proofs.ByLemmas.{is_by-own, is_by-other}
-use Rattle.wx_endpoint.specs.History.{seen_by, MayStand, CarriesOn}
+use Rattle.wx_desk.specs.History.{seen_by}
+use Rattle.wx_endpoint.specs.History.{MayStand, CarriesOn}
 use Rattle.wx_endpoint.specs.Turn.{CursorState}
 use Rattle.wx_run.specs.declared.outcome.RunEnd.{RunEnd}
 use Rattle.wx_run.specs.Opening.{entered, listened, first_listen, first_entries, opening_from, opening}
@@ -76,11 +80,11 @@ none_by c (e ∷ past) below =
     entries_by-other below.1.c c past e below.1.own apart ∙ none_by c past below.0
 
 -- so none of its entries is to be carried out
-carries_none : (s : List Command) (c : ContextNo) (past : List Entry) → AreBelow c.0 past → CarriesOn s c (seen_by c past)
+carries_none : (s : List Command) (c : ContextNo) (past : List Entry) → AreBelow c.0 past → CarriesOn s c (seen_by (ByContext c) past)
 carries_none s c [] below = tt
 carries_none s c (e ∷ past) below =
     let apart : below.1.c.0 ≢ c.0 = (let less = below.1.below in omega arith) in
-    (carries_none s c past below.0, subst (λ b. MayStand s c b (seen_by c past) e) (sym (is_by-other e.who below.1.c c below.1.own apart)) tt)
+    (carries_none s c past below.0, subst (λ b. MayStand s c b (seen_by (ByContext c) past) e) (sym (is_by-other e.who below.1.c c below.1.own apart)) tt)
 
 has_left-below : (past : List Entry) (c : ContextNo) → AreBelow c.0 past → has_left past c ≡ false
 has_left-below [] c below = refl
@@ -155,7 +159,7 @@ ready_entered world past s x legal below follows =
       legal = (legal, follows);
       given = omega arith;
       behind = entered_cursor s c x past below;
-      carries = (carries_none s c past below, subst (λ b. MayStand s c b (seen_by c past) (entered c x)) (sym own) (may_stand s c past (entered c x) may));
+      carries = (carries_none s c past below, subst (λ b. MayStand s c b (seen_by (ByContext c) past) (entered c x)) (sym own) (may_stand s c past (entered c x) may));
       unspent = refl;
     }
 
@@ -182,6 +186,12 @@ ready_opened old new c s x legal below appends =
     (subst (λ j. IsReady old.world c (cursor_at_start s) j) (sym leaves.made)
     (subst (λ c. IsReady old.world c (cursor_at_start s) (entered (numbered (contexts (reverse old.entries))) x ∷ reverse old.entries)) (sym leaves.numbered_is)
     (ready_entered old.world (reverse old.entries) s x legal below leaves.follows)))
+
+-- what the desk lends stands on
+pub lent_entered : {E : Type 0} (old new : BrokerState) (lent : Option EntryNo) (x : Context) (r : Result ContextNo E) → IfOk r (λ c. Appends old new (ByContext c) (call.Enter x) (answer.Entered c)) → OnErr r (Stays old new) → has_lent old lent ≡ true
+    → has_lent new lent ≡ true
+lent_entered old new lent x (Ok c) appends stays is = lent_later (ByContext c) old new lent (call.Enter x) (answer.Entered c) appends is
+lent_entered old new lent x (Err e) appends stays is = lent_same old new lent stays is
 
 -- ---- one more endpoint
 
@@ -390,25 +400,25 @@ pub opened_ready : (writing : Option Writing) (world : WorldLists) (endpoints : 
 opened_ready writing world endpoints ps past so = record {
   endpoints = opened_stand world endpoints ps past so;
   hosts_stand = opened_hosts writing world endpoints ps past so;
-  go_on = record { unspent = so.unspent; hosts_unspent = refl; all = ap length (sym so.no_hosts); started = tt };
+  unspent = so.unspent;
+  hosts_unspent = refl;
+  all = ap length (sym so.no_hosts);
 }
 
-pub opened_rounds : (world : WorldLists) (scene : SceneValue) (ps : List CursorState) (opened after : List Entry) (end : RunEnd) → OpenedSoFar world scene.endpoints (length scene.endpoints) ps opened → AreRounds (scripts_in ps) opened after end
-    → AreRounds (scripts_of scene) (reverse (opening scene)) after end
+pub opened_rounds : (world : WorldLists) (scene : SceneValue) (ps : List CursorState) (opened after : List Entry) (end : RunEnd) → OpenedSoFar world scene.endpoints (length scene.endpoints) ps opened → AreRounds 0 (scripts_in ps) opened after end
+    → AreRounds 0 (scripts_of scene) (reverse (opening scene)) after end
 opened_rounds world scene ps opened after end so came =
     let endpoints = scene.endpoints in
     let begins : opened ≡ reverse (opening scene) = so.begins ∙ ap (λ es. reverse (opening_from 0 es)) (take-length endpoints) in
-    subst (λ j. AreRounds (scripts_of scene) j after end) begins
-    (subst (λ ss. AreRounds ss opened after end) (opened_scripts world endpoints ps opened so) came)
+    subst (λ j. AreRounds 0 (scripts_of scene) j after end) begins
+    (subst (λ ss. AreRounds 0 ss opened after end) (opened_scripts world endpoints ps opened so) came)
 
-pub run_of : (world : WorldLists) (scene : SceneValue) (journal : List Entry) (end : RunEnd) → IsLegal world journal → AreHostsWithin (reverse journal) → AreRounds (scripts_of scene) (reverse (opening scene)) (reverse journal) end → IsRunOf world scene journal end
+pub run_of : (world : WorldLists) (scene : SceneValue) (journal : List Entry) (end : RunEnd) → IsLegal world journal → AreHostsWithin (reverse journal) → AreRounds 0 (scripts_of scene) (reverse (opening scene)) (reverse journal) end → IsRunOf world scene journal end
 run_of world scene journal end legal hosts_within rounds = record {
   legal = legal;
   laws = legal_keeps_laws world journal legal;
   carries_out = rounds.follows;
-  begins = begins_with rounds.count (scripts_of scene) (opening scene) journal rounds.rounds;
-  count = rounds.count;
-  in_rounds = rounds.rounds;
+  begins = begins_with rounds.count 0 (scripts_of scene) (opening scene) journal rounds.rounds;
   within_limit = rounds.within_limit;
   hosts_within_limit = hosts_within;
   ended = rounds.ended;

@@ -13,7 +13,8 @@ use Rattle.wx_script.specs.declared.script.Command.{Command}
 use Rattle.wx_script.specs.Places.{next_of}
 use Rattle.wx_script.specs.Carries.{FollowsScript, AskedOf, MayCome}
 use Rattle.wx_script.specs.Ends.{numbered, is_idle, AreIdle, entries_by, entry_limit}
-use Rattle.wx_endpoint.specs.History.{seen_by, CarriesOn}
+use Rattle.wx_desk.specs.History.{seen_by}
+use Rattle.wx_endpoint.specs.History.{CarriesOn}
 use Rattle.wx_endpoint.specs.Turn.{CursorState}
 use Rattle.wx_script.specs.declared.scene.SpentWho.TheVariants.{Endpoint}
 use Rattle.wx_run.specs.declared.rounds.Rounded.TheVariants.{Idle, Spent}
@@ -64,7 +65,7 @@ ready_at world scripts i ps qs p q past stand unspent at =
       legal = stand.legal;
       given = (let all = stand.all_in in omega arith);
       behind = p_is ∙ ap (λ s. cursor_of s (numbered i) past) same_script;
-      carries = subst (λ s. CarriesOn s (numbered i) (seen_by (numbered i) past)) same_script (carries_on scripts at.script (numbered i) past at.is_endpoint stand.follows);
+      carries = subst (λ s. CarriesOn s (numbered i) (seen_by (ByContext (numbered i)) past)) same_script (carries_on scripts at.script (numbered i) past at.is_endpoint stand.follows);
       unspent = unspent_at ps 0 i p unspent at.stands;
     }
 

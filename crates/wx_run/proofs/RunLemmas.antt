@@ -1,5 +1,5 @@
 -- One more round of a run.
-use Rattle.std.proofs.Common.{◌≡◌, ℕ, zero, suc, ◌+◌, ◌-◌, ◌*◌, ◌<◌, ◌≤◌, ◌⊎◌, length, take, cond, arith, true, false, List, [], ◌++◌, map, Some, None, refl, sym, ap, ◌∙◌, subst, inl, inr}
+use Rattle.std.proofs.Common.{◌≡◌, ℕ, zero, suc, ◌+◌, ◌-◌, ◌*◌, ◌<◌, ◌≤◌, ◌⊎◌, length, take, cond, arith, true, false, List, [], ◌∷◌, ◌++◌, map, Some, None, refl, sym, ap, ◌∙◌, subst, inl, inr}
 use Rattle.std.specs.declared.option.Option.{Option}
 use Rattle.std.specs.Prelude.{reverse, Result, Ok, Err, IfOk, OnOk}
 use Rattle.wx_id.specs.declared.texts.NoMemory.{NoMemory}
@@ -24,7 +24,7 @@ use Rattle.wx_run.specs.declared.outcome.RunEnd.{RunEnd}
 use Rattle.wx_run.specs.declared.outcome.RunEnd.TheVariants as end
 use Rattle.wx_run.specs.Cursors.{AreBehind, first_spent_in, all_left, work_in}
 use Rattle.wx_run.specs.Hosts.{HaveEnded, NoneReady, spent_host, HostTurns, host_numbered, IsFirstUnended, HaveRecords}
-use Rattle.wx_run.specs.Slots.{HostsStand, first_spent_slot, all_turns_left, keeping}
+use Rattle.wx_run.specs.Slots.{HostsStand, AllWereStarted, WereStartedBelow, first_spent_slot, all_turns_left, keeping, absorbing}
 use Rattle.wx_run.specs.Serving.{SpendsHost, HostsServed, FirstHeard}
 use Rattle.wx_run.specs.Rounds.{Turns, Round, of_all, of_first_host, Rounds, FirstTurns, of_endpoints, of_hosts, whole, IsCutShort, IsSpent}
 use Rattle.wx_run.specs.Round.{AllStand, IsRound, RoundLessens}
@@ -32,6 +32,7 @@ use Rattle.wx_run.specs.Run.{BeginsWith, HasEnd}
 use Rattle.wx_run.specs.Running.{AreReady, MayGoOn, AllTurns, IsWholeRound, RoundOrNone, IsNextRound, turns_in, TurnsLessen, KeepsPlaces, AreRounds, RoundsSoFar}
 use Rattle.wx_run.proofs.EndLemmas.{spent_behind, done_behind, left_behind}
 use Rattle.wx_run.proofs.SlotLemmas.{records_meet, unspent_behind}
+use Rattle.wx_run.proofs.FinishLemmas.{absorbing_kept}
 use Rattle.wx_run.proofs.HostEntries.{host_turns_stay, says_stays, hosts_stay}
 use Rattle.wx_run.proofs.HostLemmas.{grows_on, Turns_grow, by_hosts_grow, still_behind, endpoints_stand, Turns_keep, Rounds_grow, same_or_more}
 
@@ -45,18 +46,19 @@ not_spent scripts past endpoints none (inl (n, is)) = not_some (spent_of scripts
 not_spent scripts past endpoints none (inr (h, is)) = not_some (spent_host past) h none is
 
 -- where another round may begin
-none_spent : (writing : Option Writing) (world : WorldLists) (scripts : List (List Command)) (ps : List CursorState) (slots : List SlotState) (past : List Entry) → AreReady writing world scripts ps slots past → ¬ IsSpent scripts past
+pub none_spent : (writing : Option Writing) (world : WorldLists) (scripts : List (List Command)) (ps : List CursorState) (slots : List SlotState) (past : List Entry) → AreReady writing world scripts ps slots past → ¬ IsSpent scripts past
 none_spent writing world scripts ps slots past ready =
-    not_spent scripts past (spent_behind scripts ps past ready.endpoints.behind ∙ ready.go_on.unspent) (unspent_behind writing world past slots ready.hosts_stand ready.go_on.hosts_unspent)
+    not_spent scripts past (spent_behind scripts ps past ready.endpoints.behind ∙ ready.unspent)
+    (unspent_behind writing world past slots ready.hosts_stand ready.hosts_unspent)
 
 -- ---- rounds that are cut short
 
 -- an endpoint is spent by the last entry
-pub whole_cut : (writing : Option Writing) (world : WorldLists) (scripts : List (List Command)) (ps : List CursorState) (slots : List SlotState) (a b : List Entry) (who : SpentWho) → HostsStand writing world a slots → first_spent_slot 0 slots ≡ None
-    → IsRound scripts ps a b (Spent who) → IsWholeRound scripts ps slots a b (Spent who)
-whole_cut writing world scripts ps slots a b (Endpoint n) stand unspent spends =
+pub whole_cut : (known : ℕ) (writing : Option Writing) (world : WorldLists) (scripts : List (List Command)) (ps : List CursorState) (slots : List SlotState) (a b : List Entry) (who : SpentWho) → HostsStand writing world a slots → first_spent_slot 0 slots ≡ None
+    → IsRound scripts ps a b (Spent who) → IsWholeRound known scripts ps slots a b (Spent who)
+whole_cut known writing world scripts ps slots a b (Endpoint n) stand unspent spends =
     let hosts_stand = Turns_keep writing world (take n scripts) 0 a spends.past slots spends.earlier stand in
-    let cut : IsCutShort scripts a b = record {
+    let cut : IsCutShort known scripts a b = record {
       turns = of_endpoints (n + 1) spends.turns;
       last = spends.last;
       past = spends.past;
@@ -65,13 +67,13 @@ whole_cut writing world scripts ps slots a b (Endpoint n) stand unspent spends =
       spent = inl (n, spends.spent);
     } in
     (cut, spends.spent)
-whole_cut writing world scripts ps slots a b (Host h) stand unspent round = absurd round
+whole_cut known writing world scripts ps slots a b (Host h) stand unspent round = absurd round
 
 -- a host is spent by the last entry, and no endpoint is
-cut_by_host : (scripts : List (List Command)) (ps : List CursorState) (a b c : List Entry) (h : HostNo) → FirstTurns scripts a c → AreBehind scripts ps b → AreBehind scripts ps c → first_spent_in 0 ps ≡ None → SpendsHost h b c
-    → IsCutShort scripts a c × HasEnd scripts c (end.Spent (Host h))
-cut_by_host scripts ps a b c h turns before after unspent spends =
-    let cut : IsCutShort scripts a c = record {
+cut_by_host : (known : ℕ) (scripts : List (List Command)) (ps : List CursorState) (a b c : List Entry) (h : HostNo) → FirstTurns known scripts a c → AreBehind scripts ps b → AreBehind scripts ps c → first_spent_in 0 ps ≡ None → SpendsHost h b c
+    → IsCutShort known scripts a c × HasEnd scripts c (end.Spent (Host h))
+cut_by_host known scripts ps a b c h turns before after unspent spends =
+    let cut : IsCutShort known scripts a c = record {
       turns = turns;
       last = spends.last;
       past = b;
@@ -89,32 +91,30 @@ none_turn known zero past within none = refl
 none_turn known (suc n) past within none = (past, none_turn known n past (omega (arith, within)) none, rested (none (host_numbered n) (omega (arith, within))) refl)
 
 -- the hosts made their turns behind all endpoints, and one did something or is spent
-pub whole_served : (world : WorldLists) (scripts : List (List Command)) (ps : List CursorState) (old new : List SlotState) (a b c : List Entry) (r : Rounded) → AllStand world scripts ps b → Turns scripts 0 a b → first_spent_in 0 ps ≡ None
-    → length new ≡ length (hosts b) → (r ≡ Idle → ⊥) → HostsServed (length (hosts a)) b c old new r → IsWholeRound scripts ps new a c r
-whole_served world scripts ps old new a b c Moved stand turns unspent size moved served =
-    let kept = ap length (hosts_stay b c (host_turns_stay (length (hosts a)) (length (hosts b)) b c served.0)) in
+pub whole_served : (known : ℕ) (world : WorldLists) (scripts : List (List Command)) (ps : List CursorState) (old new : List SlotState) (a b c : List Entry) (r : Rounded) → AllStand world scripts ps b → Turns scripts 0 a b → first_spent_in 0 ps ≡ None
+    → length new ≡ length (hosts b) → (r ≡ Idle → ⊥) → HostsServed known b c old new r → IsWholeRound known scripts ps new a c r
+whole_served known world scripts ps old new a b c Moved stand turns unspent size moved served =
+    let kept = ap length (hosts_stay b c (host_turns_stay known (length (hosts b)) b c served.0)) in
     ((b, turns, served.0), record { unspent = unspent; hosts_unspent = served.1; all = size ∙ sym kept; started = served.2 })
-whole_served world scripts ps old new a b c Idle stand turns unspent size moved served = absurd (moved refl)
-whole_served world scripts ps old new a b c (Spent (Endpoint n)) stand turns unspent size moved served = absurd served
-whole_served world scripts ps old new a b c (Spent (Host h)) stand turns unspent size moved (n, past, below, earlier, turn, spends) =
-    let known = length (hosts a) in
+whole_served known world scripts ps old new a b c Idle stand turns unspent size moved served = absurd (moved refl)
+whole_served known world scripts ps old new a b c (Spent (Endpoint n)) stand turns unspent size moved served = absurd served
+whole_served known world scripts ps old new a b c (Spent (Host h)) stand turns unspent size moved (n, past, below, earlier, turn, spends) =
     let all : HostTurns known (suc n) b c = (past, earlier, turn) in
     let before = still_behind scripts ps b past stand.behind (host_turns_stay known n b past earlier) in
     let after = still_behind scripts ps b c stand.behind (host_turns_stay known (suc n) b c all) in
-    cut_by_host scripts ps a past c h (of_hosts b (suc n) turns (omega (arith, below)) all) before after unspent spends
+    cut_by_host known scripts ps a past c h (of_hosts b (suc n) turns (omega (arith, below)) all) before after unspent spends
 
 -- they could do nothing behind all endpoints
-pub whole_rested : (scripts : List (List Command)) (ps : List CursorState) (old new : List SlotState) (a b c : List Entry) (r : Rounded) → IsRound scripts ps a b r → ((who : SpentWho) → r ≡ Spent who → ⊥)
-    → length old ≡ length (hosts b) → HostsServed (length (hosts a)) b c old new Idle → IsWholeRound scripts ps new a c r
-whole_rested scripts ps old new a b c Moved round unspent all (same, none, started, hosts_unspent, same_slots) =
-    let known = length (hosts a) in
-    let here : AllTurns scripts a b = (b, round.0, none_turn known (length (hosts b)) b (omega arith) none) in
+pub whole_rested : (known : ℕ) (scripts : List (List Command)) (ps : List CursorState) (old new : List SlotState) (a b c : List Entry) (r : Rounded) → IsRound scripts ps a b r → ((who : SpentWho) → r ≡ Spent who → ⊥)
+    → length old ≡ length (hosts b) → HostsServed known b c old new Idle → IsWholeRound known scripts ps new a c r
+whole_rested known scripts ps old new a b c Moved round unspent all (same, none, started, hosts_unspent, same_slots) =
+    let here : AllTurns known scripts a b = (b, round.0, none_turn known (length (hosts b)) b (omega arith) none) in
     let counted : length new ≡ length (hosts c) = ap length same_slots ∙ all ∙ sym (ap (λ j. length (hosts j)) same) in
-    (subst (λ j. AllTurns scripts a j) (sym same) here, record { unspent = round.1; hosts_unspent = hosts_unspent; all = counted; started = started })
-whole_rested scripts ps old new a b c Idle round unspent all (same, none, started, hosts_unspent, same_slots) =
+    (subst (λ j. AllTurns known scripts a j) (sym same) here, record { unspent = round.1; hosts_unspent = hosts_unspent; all = counted; started = started })
+whole_rested known scripts ps old new a b c Idle round unspent all (same, none, started, hosts_unspent, same_slots) =
     let counted : length new ≡ length (hosts c) = ap length same_slots ∙ all ∙ sym (ap (λ j. length (hosts j)) same) in
     (same ∙ round.3, round.2, subst (λ j. NoneReady j) round.3 none, record { unspent = round.1; hosts_unspent = hosts_unspent; all = counted; started = started })
-whole_rested scripts ps old new a b c (Spent who) round unspent all served = absurd (unspent who refl)
+whole_rested known scripts ps old new a b c (Spent who) round unspent all served = absurd (unspent who refl)
 
 -- ---- what stands behind a whole round
 
@@ -208,9 +208,9 @@ heard_lessens ps old new a b (Spent who) heard = tt
 
 -- ---- the next round
 
-all_or_none : (scripts : List (List Command)) (a b : List Entry) → AllTurns scripts a b → RoundOrNone scripts a b
-all_or_none scripts a b turns =
-    let by_hosts = host_turns_stay (length (hosts a)) (length (hosts turns.0)) turns.0 b turns.2 in
+all_or_none : (known : ℕ) (scripts : List (List Command)) (a b : List Entry) → AllTurns known scripts a b → RoundOrNone known scripts a b
+all_or_none known scripts a b turns =
+    let by_hosts = host_turns_stay known (length (hosts turns.0)) turns.0 b turns.2 in
     let grown = grows_on a turns.0 b (Turns_grow scripts 0 a turns.0 turns.1) (by_hosts_grow turns.0 b by_hosts) in
     elim (same_or_more a b grown) [
       | inl same ↦ inr same
@@ -218,24 +218,24 @@ all_or_none scripts a b turns =
     ]
 
 -- a whole round in which somebody did something is the next
-pub next_whole : (scripts : List (List Command)) (ps : List CursorState) (slots : List SlotState) (a b : List Entry) (r : Rounded) → (r ≡ Idle → ⊥) → IsWholeRound scripts ps slots a b r → IsNextRound scripts ps slots a b r
-next_whole scripts ps slots a b Moved moved round = (all_or_none scripts a b round.0, round.1)
-next_whole scripts ps slots a b Idle moved round = absurd (moved refl)
-next_whole scripts ps slots a b (Spent who) moved round = round
+pub next_whole : (known : ℕ) (scripts : List (List Command)) (ps : List CursorState) (slots : List SlotState) (a b : List Entry) (r : Rounded) → (r ≡ Idle → ⊥) → IsWholeRound known scripts ps slots a b r → IsNextRound known scripts ps slots a b r
+next_whole known scripts ps slots a b Moved moved round = (all_or_none known scripts a b round.0, round.1)
+next_whole known scripts ps slots a b Idle moved round = absurd (moved refl)
+next_whole known scripts ps slots a b (Spent who) moved round = round
 
-heard_round : (scripts : List (List Command)) (ps : List CursorState) (slots : List SlotState) (a b c : List Entry) → IsWholeRound scripts ps slots a b Idle → (h : HostNo) → IsFirstUnended b h → SaysOrEnds h b c → Round scripts a c
-heard_round scripts ps slots a b c idle h first turn =
-    let here : Round scripts b c = of_first_host (subst (λ j. AreIdle scripts j) (sym idle.0) idle.1) (subst (λ j. NoneReady j) (sym idle.0) idle.2) h first turn in
-    subst (λ j. Round scripts j c) idle.0 here
+heard_round : (known : ℕ) (scripts : List (List Command)) (ps : List CursorState) (slots : List SlotState) (a b c : List Entry) → IsWholeRound known scripts ps slots a b Idle → (h : HostNo) → IsFirstUnended b h → SaysOrEnds h b c → Round known scripts a c
+heard_round known scripts ps slots a b c idle h first turn =
+    let here : Round known scripts b c = of_first_host (subst (λ j. AreIdle scripts j) (sym idle.0) idle.1) (subst (λ j. NoneReady j) (sym idle.0) idle.2) h first turn in
+    subst (λ j. Round known scripts j c) idle.0 here
 
 -- where nobody could do anything, the first host's turn is the next round
-pub next_heard : (world : WorldLists) (scripts : List (List Command)) (ps : List CursorState) (old new : List SlotState) (a b c : List Entry) (r : Rounded) → AllStand world scripts ps b → AllStand world scripts ps c → length new ≡ length old
-    → IsWholeRound scripts ps old a b Idle → FirstHeard b c old new r → IsNextRound scripts ps new a c r
-next_heard world scripts ps old new a b c Moved before after size idle heard =
+pub next_heard : (known : ℕ) (world : WorldLists) (scripts : List (List Command)) (ps : List CursorState) (old new : List SlotState) (a b c : List Entry) (r : Rounded) → AllStand world scripts ps b → AllStand world scripts ps c → length new ≡ length old
+    → IsWholeRound known scripts ps old a b Idle → FirstHeard b c old new r → IsNextRound known scripts ps new a c r
+next_heard known world scripts ps old new a b c Moved before after size idle heard =
     let kept = ap length (hosts_stay b c (says_stays heard.0.0 b c heard.0.2)) in
     let go_on : MayGoOn ps new c = record { unspent = idle.3.unspent; hosts_unspent = heard.1; all = size ∙ idle.3.all ∙ sym kept; started = heard.2 } in
-    (inl (heard_round scripts ps old a b c idle heard.0.0 heard.0.1 heard.0.2), go_on)
-next_heard world scripts ps old new a b c Idle before after size idle heard = (
+    (inl (heard_round known scripts ps old a b c idle heard.0.0 heard.0.1 heard.0.2), go_on)
+next_heard known world scripts ps old new a b c Idle before after size idle heard = (
   record {
     idle = subst (λ j. AreIdle scripts j) (sym (heard.0 ∙ idle.0)) idle.1;
     ended = subst (λ j. HaveEnded j) (sym heard.0) heard.1;
@@ -243,9 +243,9 @@ next_heard world scripts ps old new a b c Idle before after size idle heard = (
   },
   idle.3.unspent,
 )
-next_heard world scripts ps old new a b c (Spent (Endpoint n)) before after size idle heard = absurd heard
-next_heard world scripts ps old new a b c (Spent (Host g)) before after size idle heard =
-    cut_by_host scripts ps a b c g (whole (heard_round scripts ps old a b c idle heard.0.0 heard.0.1 heard.0.2)) before.behind after.behind idle.3.unspent heard.1
+next_heard known world scripts ps old new a b c (Spent (Endpoint n)) before after size idle heard = absurd heard
+next_heard known world scripts ps old new a b c (Spent (Host g)) before after size idle heard =
+    cut_by_host known scripts ps a b c g (whole (heard_round known scripts ps old a b c idle heard.0.0 heard.0.1 heard.0.2)) before.behind after.behind idle.3.unspent heard.1
 
 -- the same of what `hear_first` answers
 pub heard_stands : (world : WorldLists) (scripts : List (List Command)) (ps : List CursorState) (old new : List SlotState) (a b : List Entry) (result : Result Rounded NoMemory) → AllStand world scripts ps a
@@ -253,10 +253,10 @@ pub heard_stands : (world : WorldLists) (scripts : List (List Command)) (ps : Li
 heard_stands world scripts ps old new a b (Ok r) stand heard legal = heard_stand world scripts ps old new a b r stand heard legal
 heard_stands world scripts ps old new a b (Err e) stand heard legal = tt
 
-pub heard_next : (world : WorldLists) (scripts : List (List Command)) (ps : List CursorState) (old new : List SlotState) (a b c : List Entry) (result : Result Rounded NoMemory) → AllStand world scripts ps b → length new ≡ length old
-    → IsWholeRound scripts ps old a b Idle → IfOk result (λ r. FirstHeard b c old new r) → OnOk result (EachAfter (FollowsMachine world) c) → IfOk result (λ r. IsNextRound scripts ps new a c r)
-heard_next world scripts ps old new a b c (Ok r) stand size idle heard legal = next_heard world scripts ps old new a b c r stand (heard_stand world scripts ps old new b c r stand heard legal) size idle heard
-heard_next world scripts ps old new a b c (Err e) stand size idle heard legal = tt
+pub heard_next : (known : ℕ) (world : WorldLists) (scripts : List (List Command)) (ps : List CursorState) (old new : List SlotState) (a b c : List Entry) (result : Result Rounded NoMemory) → AllStand world scripts ps b → length new ≡ length old
+    → IsWholeRound known scripts ps old a b Idle → IfOk result (λ r. FirstHeard b c old new r) → OnOk result (EachAfter (FollowsMachine world) c) → IfOk result (λ r. IsNextRound known scripts ps new a c r)
+heard_next known world scripts ps old new a b c (Ok r) stand size idle heard legal = next_heard known world scripts ps old new a b c r stand (heard_stand world scripts ps old new b c r stand heard legal) size idle heard
+heard_next known world scripts ps old new a b c (Err e) stand size idle heard legal = tt
 
 then_lessens : (m n k : ℕ) (r : Rounded) → n ≡ m → TurnsLessen n k r → TurnsLessen m k r
 then_lessens m n k r same less = subst (λ n. TurnsLessen n k r) same less
@@ -329,30 +329,45 @@ stand_now world other scripts ss ps past same_world same_scripts stand = subst (
 pub hosts_now : (writing told : Option Writing) (world other : WorldLists) (past : List Entry) (slots : List SlotState) → told ≡ writing → other ≡ world → HostsStand told other past slots → HostsStand writing world past slots
 hosts_now writing told world other past slots same_writing same_world stand = subst (λ w. HostsStand writing w past slots) same_world (subst (λ t. HostsStand t other past slots) same_writing stand)
 
-pub round_now : (scripts ss : List (List Command)) (ps : List CursorState) (slots : List SlotState) (a b : List Entry) (r q : Rounded) → ss ≡ scripts → r ≡ q → IsNextRound ss ps slots a b r → IsNextRound scripts ps slots a b q
-round_now scripts ss ps slots a b r q same_scripts is round = subst (λ r. IsNextRound scripts ps slots a b r) is (subst (λ ss. IsNextRound ss ps slots a b r) same_scripts round)
+pub round_now : (known : ℕ) (scripts ss : List (List Command)) (ps : List CursorState) (slots : List SlotState) (a b : List Entry) (r q : Rounded) → ss ≡ scripts → r ≡ q → IsNextRound known ss ps slots a b r → IsNextRound known scripts ps slots a b q
+round_now known scripts ss ps slots a b r q same_scripts is round = subst (λ r. IsNextRound known scripts ps slots a b r) is (subst (λ ss. IsNextRound known ss ps slots a b r) same_scripts round)
 
-pub rounds_begin : (writing : Option Writing) (world : WorldLists) (scripts : List (List Command)) (ps : List CursorState) (slots : List SlotState) (a : List Entry) → AreReady writing world scripts ps slots a → RoundsSoFar writing world scripts ps slots a a
-rounds_begin writing world scripts ps slots a ready = record { ready = ready; rounds = λ m last r. (m, r) }
+pub rounds_begin : (known : ℕ) (scripts : List (List Command)) (slots : List SlotState) (a : List Entry) → WereStartedBelow known slots → RoundsSoFar known scripts slots a a
+rounds_begin known scripts slots a started = record { now = known; started = started; rounds = λ m last r. (m, r) }
+
+-- all that were started are started below any number
+all_below : (known : ℕ) (slots : List SlotState) → known ≤ length slots → AllWereStarted slots → WereStartedBelow known slots
+all_below known slots below all = (below, AllWereStarted-take known slots all)
+  where
+    AllWereStarted-take : (n : ℕ) (slots : List SlotState) → AllWereStarted slots → AllWereStarted (take n slots)
+    AllWereStarted-take zero slots all = tt
+    AllWereStarted-take (suc n) [] all = tt
+    AllWereStarted-take (suc n) (slot ∷ slots) all = (all.0, AllWereStarted-take n slots all.1)
+
+-- what a round leaves where another may begin
+pub ready_again : (writing : Option Writing) (world : WorldLists) (scripts : List (List Command)) (ps : List CursorState) (slots : List SlotState) (past : List Entry) → AllStand world scripts ps past → HostsStand writing world past slots → MayGoOn ps slots past
+    → AreReady writing world scripts ps slots past
+ready_again writing world scripts ps slots past stand hosts_stand go_on =
+    record { endpoints = stand; hosts_stand = hosts_stand; unspent = go_on.unspent; hosts_unspent = go_on.hosts_unspent; all = go_on.all }
 
 -- one round more, or none
-rounds_more : (scripts : List (List Command)) (b c : List Entry) → RoundOrNone scripts b c → ¬ IsSpent scripts c → (m : ℕ) (last : List Entry) → Rounds m scripts c last → (n : ℕ) × Rounds n scripts b last
-rounds_more scripts b c (inl round) unspent m last r = (suc m, (c, round, unspent, r))
-rounds_more scripts b c (inr same) unspent m last r = (m, subst (λ j. Rounds m scripts j last) same r)
-
-pub rounds_go_on : (writing : Option Writing) (world : WorldLists) (scripts : List (List Command)) (ps qs : List CursorState) (old new : List SlotState) (a b c : List Entry) → RoundsSoFar writing world scripts ps old a b
-    → AllStand world scripts qs c → HostsStand writing world c new → IsNextRound scripts qs new b c Moved → RoundsSoFar writing world scripts qs new a c
-rounds_go_on writing world scripts ps qs old new a b c so stand hosts_stand round =
-    let ready : AreReady writing world scripts qs new c = record { endpoints = stand; hosts_stand = hosts_stand; go_on = round.1 } in
-    record {
-      ready = ready;
-      rounds = λ m last r. let more = rounds_more scripts b c round.0 (none_spent writing world scripts qs new c ready) m last r in so.rounds more.0 last more.1;
-    }
+pub rounds_go_on : (known : ℕ) (scripts : List (List Command)) (qs : List CursorState) (old new : List SlotState) (a b c : List Entry) → length old ≤ length new → ¬ IsSpent scripts c → (so : RoundsSoFar known scripts old a b)
+    → IsNextRound so.now scripts qs new b c Moved → RoundsSoFar known scripts new a c
+rounds_go_on known scripts qs old new a b c more unspent so (inl round, go_on) = record {
+  now = length (hosts c);
+  started = all_below (length (hosts c)) new (let all = go_on.all in omega (arith, all)) go_on.started;
+  rounds = λ m last r. so.rounds (suc m) last (c, round, unspent, r);
+}
+rounds_go_on known scripts qs old new a b c more unspent so (inr same, go_on) = record {
+  now = so.now;
+  started = all_below so.now new (let below = so.started.0 in omega (arith, below, more)) go_on.started;
+  rounds = λ m last r. so.rounds m last (subst (λ j. Rounds m so.now scripts j last) same r);
+}
 
 -- nobody can do anything
-pub rounds_idle : (writing : Option Writing) (world : WorldLists) (scripts : List (List Command)) (ps qs : List CursorState) (old new : List SlotState) (a b c : List Entry) → RoundsSoFar writing world scripts ps old a b → AllStand world scripts qs c
-    → IsNextRound scripts qs new b c Idle → AreRounds scripts a c (cond (all_left qs) end.Done end.Stalled)
-rounds_idle writing world scripts ps qs old new a b c so stand round =
+pub rounds_idle : (known : ℕ) (world : WorldLists) (scripts : List (List Command)) (qs : List CursorState) (old new : List SlotState) (a b c : List Entry) (so : RoundsSoFar known scripts old a b) → AllStand world scripts qs c
+    → IsNextRound so.now scripts qs new b c Idle → AreRounds known scripts a c (cond (all_left qs) end.Done end.Stalled)
+rounds_idle known world scripts qs old new a b c so stand round =
     let rounds = so.rounds 0 c (inl round.0) in
     record {
       count = rounds.0;
@@ -377,9 +392,9 @@ ends_spent scripts past (Endpoint n) ends = inl (n, ends)
 ends_spent scripts past (Host h) ends = inr (h, ends.1)
 
 -- somebody is spent
-pub rounds_spent : (writing : Option Writing) (world : WorldLists) (scripts : List (List Command)) (ps qs : List CursorState) (old new : List SlotState) (a b c : List Entry) (who : SpentWho) → RoundsSoFar writing world scripts ps old a b → AllStand world scripts qs c
-    → IsNextRound scripts qs new b c (Spent who) → AreRounds scripts a c (end.Spent who)
-rounds_spent writing world scripts ps qs old new a b c who so stand (cut, ends) =
+pub rounds_spent : (known : ℕ) (world : WorldLists) (scripts : List (List Command)) (qs : List CursorState) (old new : List SlotState) (a b c : List Entry) (who : SpentWho) (so : RoundsSoFar known scripts old a b) → AllStand world scripts qs c
+    → IsNextRound so.now scripts qs new b c (Spent who) → AreRounds known scripts a c (end.Spent who)
+rounds_spent known world scripts qs old new a b c who so stand (cut, ends) =
     let rounds = so.rounds 0 c (inr cut) in
     record { count = rounds.0; rounds = rounds.1; follows = stand.follows; within_limit = stand.within_limit; ended = ends }
 
@@ -389,17 +404,17 @@ ended_or_spent scripts past end.Done ends = inl ends.1
 ended_or_spent scripts past end.Stalled ends = inl ends.1
 ended_or_spent scripts past (end.Spent who) ends = inr (ends_spent scripts past who ends)
 
-pub begins_with : (n : ℕ) (ss : List (List Command)) (front journal : List Entry) → Rounds n ss (reverse front) (reverse journal) → BeginsWith front journal
-begins_with n ss front journal rounds =
-    let grown = Rounds_grow n ss (reverse front) (reverse journal) rounds in
+pub begins_with : (n known : ℕ) (ss : List (List Command)) (front journal : List Entry) → Rounds n known ss (reverse front) (reverse journal) → BeginsWith front journal
+begins_with n known ss front journal rounds =
+    let grown = Rounds_grow n known ss (reverse front) (reverse journal) rounds in
     (reverse grown.0, sym (reverse-reverse journal) ∙ ap reverse grown.1 ∙ reverse-append grown.0 (reverse front) ∙ ap (λ j. j ++ reverse grown.0) (reverse-reverse front))
 
--- the records that the slots of all hosts leave are taken over
+-- the records that the slots of all hosts leave are taken over, and nothing else was done with the starter
 pub have_records : (scripts : List (List Command)) (world : WorldLists) (past : List Entry) (e : RunEnd) (slots : List SlotState) (old mid new : StarterState) → HasEnd scripts past e → HostsStand old.writing world past slots → length slots ≡ length (hosts past)
-    → KeepsPlaces [] slots old mid → new.records ≡ mid.records ++ map closing_record slots → HaveRecords (IsSpent scripts past) world past old new
-have_records scripts world past e slots old mid new ends stand all keeps taken = record {
+    → KeepsPlaces [] slots old mid → new ≡ absorbing mid slots → HaveRecords (IsSpent scripts past) world past old new
+have_records scripts world past e slots old mid new ends stand all keeps absorbed = record {
   more = map closing_record slots;
-  taken_over = taken ∙ ap (λ (s : StarterState). s.records ++ map closing_record slots) keeps.kept;
+  taken_over = absorbed ∙ ap (λ s. absorbing s slots) keeps.kept ∙ absorbing_kept old.writing world past slots old stand.stand;
   one_each = length-map slots closing_record ∙ all;
   meet = records_meet (IsSpent scripts past) old.writing world past slots stand all (ended_or_spent scripts past e ends);
 }

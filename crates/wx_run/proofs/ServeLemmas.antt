@@ -13,7 +13,7 @@ use Rattle.wx_machine.specs.Hosts.{hosts}
 use Rattle.wx_machine.specs.Texts.{has_ended}
 use Rattle.wx_machine.specs.Answers.{is_host_ready}
 use Rattle.wx_script.specs.declared.scene.SpentWho.TheVariants.{Host}
-use Rattle.wx_host_launch.specs.Records.{Writing}
+use Rattle.wx_host_launch.specs.Records.{Writing, StarterState}
 use Rattle.wx_host_slot.specs.Slots.{SlotState, Stands, WasStarted, is_spent_at, turns_left, CameTo, host_limit}
 use Rattle.wx_host_slot.specs.Turns.{HostTurn, SaysOrEnds}
 use Rattle.wx_host_slot.specs.declared.slot.Served.{Served}
@@ -106,7 +106,7 @@ pub record IsTurnOf (world : WorldLists) (i : ℕ) (slots : List SlotState) (bef
 pub stand_behind : (writing : Option Writing) (world : WorldLists) (i : ℕ) (slots : List SlotState) (a b : List Entry) (p q : SlotState) → first_spent_slot 0 slots ≡ None → IsTurnOf world i slots a b p q → HostsStand writing world a slots
     → HostsStand writing world b (set slots i q)
 stand_behind writing world i slots a b p q unspent turn so =
-    let same = (stand_at writing world a slots 0 i i p so.stand turn.at (omega arith)).same_writing in
+    let same = ap (λ (t : StarterState). t.writing) (stand_at writing world a slots 0 i i p so.stand turn.at (omega arith)).alone in
     hosts_stand_set writing world a b slots i p q so turn.at (unspent_slot slots 0 i p unspent turn.at) turn.adds (subst (λ w. Stands w world b (host_numbered i) q) same turn.stands)
 
 -- where its host is spent behind it, that is the first
@@ -182,7 +182,7 @@ pub slot_at : (writing : Option Writing) (world : WorldLists) (i : ℕ) (slots :
 slot_at writing world i slots past p so unspent below read =
     let at = slice_get_read slots (length slots) i p refl below read in
     let stands = stand_at writing world past slots 0 i i p so.stand at (omega arith) in
-    record { at = at; stands = subst (λ w. Stands w world past (host_numbered i) p) (sym stands.same_writing) stands; unspent = unspent_slot slots 0 i p unspent at }
+    record { at = at; stands = subst (λ w. Stands w world past (host_numbered i) p) (ap (λ (t : StarterState). t.writing) (sym stands.alone)) stands; unspent = unspent_slot slots 0 i p unspent at }
 
 -- What the turn of the next host was and came to.
 pub record IsNextTurn (world : WorldLists) (i : ℕ) (slots : List SlotState) (before after : List Entry) (p q : SlotState) (came : Served) : Type 0 where

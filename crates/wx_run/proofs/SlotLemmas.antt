@@ -14,9 +14,10 @@ use Rattle.wx_machine.specs.Hosts.{hosts, starts, is_by_host}
 use Rattle.wx_machine.specs.Texts.{has_ended}
 use Rattle.wx_host_launch.specs.Records.{Writing, StarterState, slot_like}
 use Rattle.wx_host_slot.specs.Journals.{entries_of}
-use Rattle.wx_host_slot.specs.Slots.{SlotState, waiting, running, at_end, Stands, waiting_slot, closing_record, is_spent_at, host_limit}
+use Rattle.wx_host_slot.specs.Slots.{SlotState, waiting, untold, running, at_end, Stands, waiting_slot, closing_record, is_spent_at, host_limit}
 use Rattle.wx_run.specs.Hosts.{host_numbered, HaveEnded, is_host_spent, spent_host_from, spent_host, AreHostsWithin, RecordsMeet}
 use Rattle.wx_run.specs.Slots.{SlotsStand, HostsStand, first_spent_slot}
+use Rattle.wx_host_slot.proofs.JournalLemmas.{none_ended}
 use Rattle.wx_host_slot.proofs.StandsLater.{stands_later, meets_at_end, waiting_stands}
 pub use Rattle.wx_run.proofs.HostEntries.{Adds, AreOfHost, hosts_newer, adds_hosts, adds_entries, adds_at_most, by_other_host, GrowsByHosts, host_turns_stay, hosts_stay}
 
@@ -26,6 +27,7 @@ pub use Rattle.wx_run.proofs.HostEntries.{Adds, AreOfHost, hosts_newer, adds_hos
 pub ended_so : (writing : Option Writing) (world : WorldLists) (past : List Entry) (h : HostNo) (slot : SlotState) → Stands writing world past h slot → slot.ended ≡ has_ended past h
 ended_so writing world past h slot stands = elim stands.stands [
   | waiting unended empty is ↦ ap (λ s. s.ended) is ∙ sym unended
+  | untold failed ↦ failed.unended ∙ sym (none_ended past h (sym stands.counted ∙ failed.none_made))
   | running child runs ↦ runs.unended ∙ sym runs.host_unended
   | at_end ended is meets ↦ ended ∙ sym is
 ]

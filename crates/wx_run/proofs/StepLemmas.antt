@@ -13,25 +13,26 @@ use Rattle.wx_machine.specs.Each.{EachAfter}
 use Rattle.wx_machine.specs.Events.{has_pending}
 use Rattle.wx_script.specs.Places.{Place, outside, within, left, is_left, waits, ends, next_at, next_of}
 use Rattle.wx_script.specs.Ends.{is_idle, entry_limit}
-use Rattle.wx_endpoint.specs.History.{entries_in, seen_by, CarriesOn}
-use Rattle.wx_endpoint.specs.Steps.{DeskState, IsSound, MakesNone, own_entry}
+use Rattle.wx_desk.specs.History.{entries_in, seen_by}
+use Rattle.wx_endpoint.specs.History.{CarriesOn}
+use Rattle.wx_desk.specs.Desks.{ContextDeskState, IsSound, MakesNone, own_entry, after_own}
 use Rattle.wx_endpoint.specs.Turn as turn
 use Rattle.wx_endpoint.specs.Turn.{CursorState, StandsBehind}
 use Rattle.wx_endpoint.specs.declared.cursor.Turned.{Turned}
 use Rattle.wx_endpoint.specs.declared.cursor.Turned.TheVariants.{Waits, Ended, Spent}
 use Rattle.wx_run.specs.Cursors.{cursor_of, is_spent_at}
 use Rattle.wx_run.specs.Step.{IsReady, Moves, Rests}
-use Rattle.wx_endpoint.proofs.BrokerLemmas.{entries_in-seen_by}
+use Rattle.wx_desk.proofs.OverLemmas.{entries_in-seen_by}
 use Rattle.wx_run.proofs.SeenLemmas.{place_in-seen_by, own_in-seen_by, may_come}
 
 -- the desk of context c over the one journal
-abbrev pub desk_of : ContextNo → WorldLists → List Entry → DeskState
-desk_of c world past = record { context = c; world = world; history = seen_by c past; alone = true }
+abbrev pub desk_of : ContextNo → WorldLists → List Entry → ContextDeskState
+desk_of c world past = record { who = c; world = world; history = seen_by (ByContext c) past; alone = true }
 
 pub ready_sound : (world : WorldLists) (c : ContextNo) (p : CursorState) (past : List Entry) → IsReady world c p past → IsSound (desk_of c world past)
 ready_sound world c p past ready = record {
-  legal = subst (λ j. EachAfter (FollowsMachine world) j) (sym (entries_in-seen_by c past)) ready.legal;
-  given = subst (λ j. c.0 < contexts j) (sym (entries_in-seen_by c past)) ready.given;
+  legal = subst (λ j. EachAfter (FollowsMachine world) j) (sym (entries_in-seen_by (ByContext c) past)) ready.legal;
+  known = subst (λ j. c.0 < contexts j) (sym (entries_in-seen_by (ByContext c) past)) ready.given;
 }
 
 pub ready_behind : (world : WorldLists) (c : ContextNo) (p : CursorState) (past : List Entry) → IsReady world c p past → StandsBehind p (desk_of c world past)
@@ -52,18 +53,18 @@ cursor_is c world past q stands = λ i. record {
 -- no entry came in
 none_came : (c d : ContextNo) (world other : WorldLists) (a b : List Entry) → MakesNone (desk_of c world a) (desk_of d other b) → b ≡ a
 none_came c d world other a b none =
-    let seen : seen_by d b ≡ seen_by c a = none.seen ∙ ap (λ o. o ++ seen_by c a) (none.none_came refl) in
-    sym (entries_in-seen_by d b) ∙ ap entries_in seen ∙ entries_in-seen_by c a
+    let seen : seen_by (ByContext d) b ≡ seen_by (ByContext c) a = none.seen ∙ ap (λ o. o ++ seen_by (ByContext c) a) (none.none_came refl) in
+    sym (entries_in-seen_by (ByContext d) b) ∙ ap entries_in seen ∙ entries_in-seen_by (ByContext c) a
 
--- the desk behind an own entry
-abbrev desk_with : ContextNo → WorldLists → List Entry → Call → Answer → DeskState
-desk_with c world a call answer = record { context = c; world = world; history = own_entry (desk_of c world a) call answer ∷ seen_by c a; alone = true }
+-- the desk after an own entry
+abbrev desk_with : ContextNo → WorldLists → List Entry → Call → Answer → ContextDeskState
+desk_with c world a call answer = after_own (desk_of c world a) call answer
 
-made_one : (c : ContextNo) (world : WorldLists) (a : List Entry) (between : DeskState) (call : Call) (answer : Answer) → MakesNone (desk_of c world a) between
-    → record between { history = own_entry (desk_of c world a) call answer ∷ between.history } ≡ desk_with c world a call answer
+made_one : (c : ContextNo) (world : WorldLists) (a : List Entry) (between : ContextDeskState) (call : Call) (answer : Answer) → MakesNone (desk_of c world a) between → after_own between call answer ≡ desk_with c world a call answer
 made_one c world a between call answer none =
-    let seen : between.history ≡ seen_by c a = none.seen ∙ ap (λ o. o ++ seen_by c a) (none.none_came refl) in
-    λ i. record { context = none.same_context i; world = none.same_world i; history = own_entry (desk_of c world a) call answer ∷ seen i; alone = none.same_alone i }
+    let seen : between.history ≡ seen_by (ByContext c) a = none.seen ∙ ap (λ o. o ++ seen_by (ByContext c) a) (none.none_came refl) in
+    let same : between ≡ desk_of c world a = (λ i. record { who = none.same_who i; world = none.same_world i; history = seen i; alone = none.same_alone i }) in
+    ap (λ (desk : ContextDeskState). after_own desk call answer) same
 
 pub moved : (c d : ContextNo) (world other : WorldLists) (a b : List Entry) (p q : CursorState) → IsReady world c p a
     → turn.Moves p q (desk_of c world a) (desk_of d other b) → StandsBehind q (desk_of d other b) → IsSound (desk_of d other b) → q.script ≡ p.script
@@ -73,13 +74,13 @@ moved c d world other a b p q ready moves stands sound same_script =
     let e : Entry = record { who = ByContext c; call = moves.call; answer = moves.answer } in
     let new : desk_of d other b ≡ desk_with c world a moves.call moves.answer = one.made ∙ made_one c world a one.between moves.call moves.answer one.others in
     let made : b ≡ e ∷ a =
-    sym (entries_in-seen_by d b) ∙ ap (λ (desk : DeskState). entries_in desk.history) new ∙ ap (λ j. e ∷ j) (entries_in-seen_by c a) in
-    let same_context : d ≡ c = ap (λ (desk : DeskState). desk.context) new in
+    sym (entries_in-seen_by (ByContext d) b) ∙ ap (λ (desk : ContextDeskState). entries_in desk.history) new ∙ ap (λ j. e ∷ j) (entries_in-seen_by (ByContext c) a) in
+    let same_context : d ≡ c = ap (λ (desk : ContextDeskState). desk.who) new in
     let stands_on : StandsBehind q (desk_with c world a moves.call moves.answer) = subst (λ desk. StandsBehind q desk) new stands in
-    let carries : CarriesOn p.script c (own_entry (desk_of c world a) moves.call moves.answer ∷ seen_by c a) =
-    subst (λ s. CarriesOn s c (own_entry (desk_of c world a) moves.call moves.answer ∷ seen_by c a)) same_script stands_on.carries in
+    let carries : CarriesOn p.script c (own_entry (desk_of c world a) moves.call moves.answer ∷ seen_by (ByContext c) a) =
+    subst (λ s. CarriesOn s c (own_entry (desk_of c world a) moves.call moves.answer ∷ seen_by (ByContext c) a)) same_script stands_on.carries in
     let sound_on : IsSound (desk_with c world a moves.call moves.answer) = subst (λ desk. IsSound desk) new sound in
-    let legal : EachAfter (FollowsMachine world) (e ∷ a) = subst (λ j. EachAfter (FollowsMachine world) (e ∷ j)) (entries_in-seen_by c a) sound_on.legal in
+    let legal : EachAfter (FollowsMachine world) (e ∷ a) = subst (λ j. EachAfter (FollowsMachine world) (e ∷ j)) (entries_in-seen_by (ByContext c) a) sound_on.legal in
     record {
       entry = e;
       own = refl;
@@ -97,7 +98,7 @@ waited : (c d : ContextNo) (world other : WorldLists) (a b : List Entry) (p q : 
     → turn.Rests p (desk_of c world a) (desk_of d other b) → q ≡ p → Rests c p q a b
 waited c d world other a b p q ready rests same_cursor =
     let same : b ≡ a = none_came c d world other a b rests.none_pending.others in
-    let here : entries_in (seen_by d b) ≡ a = entries_in-seen_by d b ∙ same in
+    let here : entries_in (seen_by (ByContext d) b) ≡ a = entries_in-seen_by (ByContext d) b ∙ same in
     let next : next_of p.script c a ≡ waits = sym (next_is world c p a ready) ∙ subst (λ j. next_at j p.place ≡ waits) here rests.waiting in
     let none : has_pending a c ≡ false = subst (λ j. has_pending j c ≡ false) here rests.none_pending.none_pending in
     record { idle = ap (λ n. is_idle a c n) next ∙ ap not none; same_cursor = same_cursor; same = same }
@@ -105,7 +106,7 @@ waited c d world other a b p q ready rests same_cursor =
 ended : (c d : ContextNo) (world other : WorldLists) (a b : List Entry) (p q : CursorState) → IsReady world c p a
     → turn.HasEnded p (desk_of c world a) (desk_of d other b) → q ≡ p → Rests c p q a b
 ended c d world other a b p q ready is same_cursor =
-    let same : b ≡ a = sym (entries_in-seen_by d b) ∙ ap (λ (desk : DeskState). entries_in desk.history) is.same ∙ entries_in-seen_by c a in
+    let same : b ≡ a = sym (entries_in-seen_by (ByContext d) b) ∙ ap (λ (desk : ContextDeskState). entries_in desk.history) is.same ∙ entries_in-seen_by (ByContext c) a in
     let next : next_of p.script c a ≡ ends = sym (next_is world c p a ready) ∙ ap (λ place. next_at a place) is.ended in
     record { idle = ap (λ n. is_idle a c n) next; same_cursor = same_cursor; same = same }
 
@@ -129,10 +130,10 @@ pub rested : (c d : ContextNo) (world other : WorldLists) (a b : List Entry) (p 
     → Rests c p q a b × (d ≡ c) × (other ≡ world)
 rested c d world other a b p q t ready (inl is) came =
     let rests = subst (λ t. turn.IsTurn p q (desk_of c world a) (desk_of d other b) t) is came in
-    (waited c d world other a b p q ready rests.0 rests.1, rests.0.none_pending.others.same_context, rests.0.none_pending.others.same_world)
+    (waited c d world other a b p q ready rests.0 rests.1, rests.0.none_pending.others.same_who, rests.0.none_pending.others.same_world)
 rested c d world other a b p q t ready (inr (inl is)) came =
     let rests = subst (λ t. turn.IsTurn p q (desk_of c world a) (desk_of d other b) t) is came in
-    (ended c d world other a b p q ready rests.0 rests.1, ap (λ (desk : DeskState). desk.context) rests.0.same, ap (λ (desk : DeskState). desk.world) rests.0.same)
+    (ended c d world other a b p q ready rests.0 rests.1, ap (λ (desk : ContextDeskState). desk.who) rests.0.same, ap (λ (desk : ContextDeskState). desk.world) rests.0.same)
 rested c d world other a b p q t ready (inr (inr is)) came =
     let rests = subst (λ t. turn.IsTurn p q (desk_of c world a) (desk_of d other b) t) is came in
     absurd (unspent c d world other a b p ready rests.0)

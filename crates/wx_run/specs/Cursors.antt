@@ -1,5 +1,6 @@
 -- Where the cursors of all endpoints stand. Every list of entries has the newest first.
-use Rattle.std.specs.Prelude.{◌≡◌, ℕ, ◌+◌, ◌-◌, Bool, true, ◌&&◌, not, List, [], ◌∷◌, map, Option, Some, None, nat_le, if◌then◌else◌}
+use Rattle.std.specs.Prelude.{◌≡◌, ℕ, ◌+◌, ◌-◌, Bool, ◌&&◌, not, List, [], ◌∷◌, map, Option, Some, None, nat_le, if◌then◌else◌}
+use Rattle.std.specs.List.{list_all}
 use Rattle.wx_id.specs.declared.numbers.ContextNo.{ContextNo}
 use Rattle.wx_machine.specs.declared.entries.Entry.{Entry}
 use Rattle.wx_script.specs.declared.script.Command.{Command}
@@ -39,8 +40,7 @@ first_spent_in n (cursor ∷ cursors) = if is_spent_at cursor then Some n else f
 
 -- each cursor stands behind its endpoint's `leave`
 abbrev pub all_left : List CursorState → Bool
-all_left [] = true
-all_left (cursor ∷ cursors) = is_left cursor.place && all_left cursors
+all_left cursors = list_all (λ (cursor : CursorState). is_left cursor.place) cursors
 
 -- how many entries the endpoints may still make
 abbrev pub work_in : List CursorState → ℕ

@@ -6,7 +6,7 @@ use Rattle.wx_machine.specs.declared.entries.Entry.{Entry}
 use Rattle.wx_machine.specs.Answers.{is_host_ready}
 use Rattle.wx_machine.specs.Hosts.{hosts}
 use Rattle.wx_machine.specs.Texts.{has_ended}
-use Rattle.wx_host_launch.specs.Records.{HostRecord, Writing, StarterState}
+use Rattle.wx_host_launch.specs.Records.{HostRecord, Writing, StarterState, plus, faults_in}
 use Rattle.wx_host_slot.specs.Journals.{entries_of}
 use Rattle.wx_host_slot.specs.Meets.{RecordMeets}
 use Rattle.wx_host_slot.specs.Slots.{host_limit}
@@ -33,11 +33,11 @@ pub record IsFirstUnended (past : List Entry) (h : HostNo) : Type 0 where
 abbrev pub NoneReady : List Entry → Type 0
 NoneReady past = (h : HostNo) → h.0 < length (hosts past) → is_host_ready past h ≡ false
 
--- the turns of so many hosts, numbered from 0, in rising number; those from number `known` on were called in this round, and
--- they alone can fail to start
+-- the turns of so many hosts, numbered from 0, in rising number; those from number `known` on alone can fail to start
 abbrev pub HostTurns : ℕ → ℕ → List Entry → List Entry → Type 0
 HostTurns known zero before after = after ≡ before
-HostTurns known (suc n) before after = (between : List Entry) × HostTurns known n before between × HostTurn (known ≤ n) (host_numbered n) between after
+HostTurns known (suc n) before after =
+    (between : List Entry) × HostTurns known n before between × HostTurn (known ≤ n) (host_numbered n) between after
 
 -- host h has made as many entries as it may, and has not ended
 abbrev pub is_host_spent : List Entry → HostNo → Bool
@@ -46,7 +46,8 @@ is_host_spent past h = nat_le host_limit (entries_of h past) && not (has_ended p
 -- the first of so many hosts, numbered from n, that is spent
 abbrev pub spent_host_from : ℕ → ℕ → List Entry → Option HostNo
 spent_host_from zero n past = None
-spent_host_from (suc count) n past = if is_host_spent past (host_numbered n) then Some (host_numbered n) else spent_host_from count (n + 1) past
+spent_host_from (suc count) n past =
+    if is_host_spent past (host_numbered n) then Some (host_numbered n) else spent_host_from count (n + 1) past
 
 -- the first host that is spent
 abbrev pub spent_host : List Entry → Option HostNo
@@ -59,11 +60,22 @@ AreHostsWithin past = (h : HostNo) → entries_of h past ≤ host_limit + 2
 -- each of these records, of hosts numbered from n, meets the journal
 abbrev pub RecordsMeet : Type 0 → Option Writing → WorldLists → List Entry → ℕ → List HostRecord → Type 0
 RecordsMeet spent writing world past n [] = Unit {0}
-RecordsMeet spent writing world past n (r ∷ records) = RecordMeets spent writing world past (host_numbered n) r × RecordsMeet spent writing world past (n + 1) records
+RecordsMeet spent writing world past n (r ∷ records) =
+    RecordMeets spent writing world past (host_numbered n) r × RecordsMeet spent writing world past (n + 1) records
 
--- The starter took over one record for each host of the journal, in rising number, and each meets the journal.
+-- a count of faults with those of these records
+abbrev pub with_faults : ℕ → List HostRecord → ℕ
+with_faults count [] = count
+with_faults count (r ∷ records) = with_faults (plus count (faults_in r)) records
+
+-- the starter with these records taken over, and else as it was
+abbrev pub with_records : StarterState → List HostRecord → StarterState
+with_records starter more = record starter { records = starter.records ++ more; taken_over = with_faults starter.taken_over more }
+
+-- All that was done with the starter: it took over one record for each host of the journal, in rising number, and each meets the
+-- journal. So nothing else was started.
 pub record HaveRecords (spent : Type 0) (world : WorldLists) (past : List Entry) (old new : StarterState) : Type 0 where
   pub more : List HostRecord
-  pub taken_over : new.records ≡ old.records ++ more
+  pub taken_over : new ≡ with_records old more
   pub one_each : length more ≡ length (hosts past)
   pub meet : RecordsMeet spent old.writing world past 0 more

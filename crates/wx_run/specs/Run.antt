@@ -27,6 +27,12 @@ HasEnd scripts past Stalled = IsStalled scripts past × HaveEnded past
 HasEnd scripts past (Spent (Endpoint n)) = spent_of scripts past ≡ Some n
 HasEnd scripts past (Spent (Host h)) = (spent_of scripts past ≡ None) × (spent_host past ≡ Some h)
 
+-- The entries after the opening fall into rounds, so many whole ones. No host was called in the opening, so of the hosts those
+-- alone can fail to start that were called in the same round.
+pub record IsInRounds (scene : SceneValue) (journal : List Entry) : Type 0 where
+  pub count : ℕ
+  pub in_rounds : Rounds count 0 (scripts_of scene) (reverse (opening scene)) (reverse journal)
+
 -- A journal that a run of the scene leaves, and how it ends.
 pub record IsRunOf (world : WorldLists) (scene : SceneValue) (journal : List Entry) (end : RunEnd) : Type 0 where
   -- every answer is the machine's after the entries before it
@@ -37,12 +43,13 @@ pub record IsRunOf (world : WorldLists) (scene : SceneValue) (journal : List Ent
   pub carries_out : CarriesOut (scripts_of scene) journal
   -- it begins with the opening
   pub begins : BeginsWith (opening scene) journal
-  -- and behind the opening come rounds, so many whole ones
-  pub count : ℕ
-  pub in_rounds : Rounds count (scripts_of scene) (reverse (opening scene)) (reverse journal)
   -- no endpoint makes more entries than it may
   pub within_limit : (c : ContextNo) → entries_by c (reverse journal) ≤ entry_limit
   -- nor does a host
   pub hosts_within_limit : AreHostsWithin (reverse journal)
   -- and it ends so
   pub ended : HasEnd (scripts_of scene) (reverse journal) end
+
+-- A run has one end: of the three no two hold of one journal.
+abbrev pub HasOneEnd : List (List Command) → List Entry → Type 0
+HasOneEnd scripts past = (one other : RunEnd) → HasEnd scripts past one → HasEnd scripts past other → one ≡ other

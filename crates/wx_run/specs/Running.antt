@@ -14,45 +14,54 @@ use Rattle.wx_run.specs.declared.rounds.Rounded.{Rounded}
 use Rattle.wx_run.specs.declared.rounds.Rounded.TheVariants.{Moved, Idle, Spent}
 use Rattle.wx_run.specs.Cursors.{first_spent_in, work_in}
 use Rattle.wx_run.specs.Hosts.{NoneReady, HostTurns}
-use Rattle.wx_run.specs.Slots.{HostsStand, AllWereStarted, first_spent_slot, all_turns_left, keeping}
+use Rattle.wx_run.specs.Slots.{HostsStand, AllWereStarted, WereStartedBelow, first_spent_slot, all_turns_left, keeping}
 use Rattle.wx_run.specs.Rounds.{Turns, Round, Rounds, IsOver, IsCutShort}
 use Rattle.wx_run.specs.Round.{AllStand, Follows, IsWithinLimit}
 use Rattle.wx_run.specs.Run.{HasEnd}
 
--- Nobody is spent, and every host has its slot, and its program was started, or could not be: another round may begin.
+-- Nobody is spent, and every host has its slot, and its program was started, or could not be: so a round leaves all where
+-- another may begin.
 pub record MayGoOn (cursors : List CursorState) (slots : List SlotState) (past : List Entry) : Type 0 where
   pub unspent : first_spent_in 0 cursors ≡ None
   pub hosts_unspent : first_spent_slot 0 slots ≡ None
   pub all : length slots ≡ length (hosts past)
   pub started : AllWereStarted slots
 
--- Between two rounds the endpoints and the hosts stand to the journal, and another round may begin.
-pub record AreReady (writing : Option Writing) (world : WorldLists) (scripts : List (List Command)) (cursors : List CursorState) (slots : List SlotState) (past : List Entry) : Type 0 where
+-- A round may begin: the endpoints and the hosts stand to the journal, nobody is spent, and every host has its slot.
+pub record AreReady (writing : Option Writing) (world : WorldLists) (scripts : List (List Command))
+    (cursors : List CursorState) (slots : List SlotState) (past : List Entry) : Type 0 where
   pub endpoints : AllStand world scripts cursors past
   pub hosts_stand : HostsStand writing world past slots
-  pub go_on : MayGoOn cursors slots past
+  pub unspent : first_spent_in 0 cursors ≡ None
+  pub hosts_unspent : first_spent_slot 0 slots ≡ None
+  pub all : length slots ≡ length (hosts past)
 
--- all endpoints made their turns, and then all hosts, of which those alone can fail to start that were called in this round
-abbrev pub AllTurns : List (List Command) → List Entry → List Entry → Type 0
-AllTurns scripts before after = (between : List Entry) × Turns scripts 0 before between × HostTurns (length (hosts before)) (length (hosts between)) between after
+-- all endpoints made their turns, and then all hosts, of which those from number `known` on alone can fail to start
+abbrev pub AllTurns : ℕ → List (List Command) → List Entry → List Entry → Type 0
+AllTurns known scripts before after =
+    (between : List Entry) × Turns scripts 0 before between × HostTurns known (length (hosts between)) between after
 
 -- What a whole round comes to: all made their turns, and another round may begin; or that, and nobody can do anything; or the
--- round is cut short behind the entry by which someone is spent, and so the run ends.
-abbrev pub IsWholeRound : List (List Command) → List CursorState → List SlotState → List Entry → List Entry → Rounded → Type 0
-IsWholeRound scripts cursors slots before after Moved = AllTurns scripts before after × MayGoOn cursors slots after
-IsWholeRound scripts cursors slots before after Idle = (after ≡ before) × AreIdle scripts before × NoneReady before × MayGoOn cursors slots after
-IsWholeRound scripts cursors slots before after (Spent who) = IsCutShort scripts before after × HasEnd scripts after (end.Spent who)
+-- round is cut short after the entry by which someone is spent, and so the run ends.
+abbrev pub IsWholeRound : ℕ → List (List Command) → List CursorState → List SlotState → List Entry → List Entry → Rounded → Type 0
+IsWholeRound known scripts cursors slots before after Moved = AllTurns known scripts before after × MayGoOn cursors slots after
+IsWholeRound known scripts cursors slots before after Idle =
+    (after ≡ before) × AreIdle scripts before × NoneReady before × MayGoOn cursors slots after
+IsWholeRound known scripts cursors slots before after (Spent who) =
+    IsCutShort known scripts before after × HasEnd scripts after (end.Spent who)
 
 -- a round; or none, where no entry was made
-abbrev pub RoundOrNone : List (List Command) → List Entry → List Entry → Type 0
-RoundOrNone scripts before after = Round scripts before after ⊎ (after ≡ before)
+abbrev pub RoundOrNone : ℕ → List (List Command) → List Entry → List Entry → Type 0
+RoundOrNone known scripts before after = Round known scripts before after ⊎ (after ≡ before)
 
--- What the next round of a run comes to: another may begin; or the run is over; or the round is cut short behind the entry by
+-- What the next round of a run comes to: another may begin; or the run is over; or the round is cut short after the entry by
 -- which someone is spent, and so the run ends.
-abbrev pub IsNextRound : List (List Command) → List CursorState → List SlotState → List Entry → List Entry → Rounded → Type 0
-IsNextRound scripts cursors slots before after Moved = RoundOrNone scripts before after × MayGoOn cursors slots after
-IsNextRound scripts cursors slots before after Idle = IsOver scripts before after × (first_spent_in 0 cursors ≡ None)
-IsNextRound scripts cursors slots before after (Spent who) = IsCutShort scripts before after × HasEnd scripts after (end.Spent who)
+abbrev pub IsNextRound : ℕ → List (List Command) → List CursorState → List SlotState → List Entry → List Entry → Rounded → Type 0
+IsNextRound known scripts cursors slots before after Moved =
+    RoundOrNone known scripts before after × MayGoOn cursors slots after
+IsNextRound known scripts cursors slots before after Idle = IsOver scripts before after × (first_spent_in 0 cursors ≡ None)
+IsNextRound known scripts cursors slots before after (Spent who) =
+    IsCutShort known scripts before after × HasEnd scripts after (end.Spent who)
 
 -- More than as many turns as all may still make, where every host has its slot: an endpoint's turn may call a host, which may
 -- make all of its turns.
@@ -71,14 +80,16 @@ pub record KeepsPlaces (old new : List SlotState) (before after : StarterState) 
   pub kept : after ≡ keeping (length new - length old) before
 
 -- Rounds led from one past to another, and so the run ends.
-pub record AreRounds (scripts : List (List Command)) (before after : List Entry) (end : RunEnd) : Type 0 where
+pub record AreRounds (known : ℕ) (scripts : List (List Command)) (before after : List Entry) (end : RunEnd) : Type 0 where
   pub count : ℕ
-  pub rounds : Rounds count scripts before after
+  pub rounds : Rounds count known scripts before after
   pub follows : Follows scripts after
   pub within_limit : IsWithinLimit after
   pub ended : HasEnd scripts after end
 
--- Rounds led from one past to another so far: whatever rounds follow, they are rounds from the first.
-pub record RoundsSoFar (writing : Option Writing) (world : WorldLists) (scripts : List (List Command)) (cursors : List CursorState) (slots : List SlotState) (before after : List Entry) : Type 0 where
-  pub ready : AreReady writing world scripts cursors slots after
-  pub rounds : (m : ℕ) (last : List Entry) → Rounds m scripts after last → (n : ℕ) × Rounds n scripts before last
+-- Rounds led from one past to another so far: whatever rounds follow, they are rounds from the first. In the next one the hosts
+-- from number `now` on alone can fail to start.
+pub record RoundsSoFar (known : ℕ) (scripts : List (List Command)) (slots : List SlotState) (before after : List Entry) : Type 0 where
+  pub now : ℕ
+  pub started : WereStartedBelow now slots
+  pub rounds : (m : ℕ) (last : List Entry) → Rounds m now scripts after last → (n : ℕ) × Rounds n known scripts before last

@@ -1,12 +1,12 @@
 -- How the slots of a run's hosts stand to the journal. Every list of entries has the newest first.
-use Rattle.std.specs.Prelude.{◌≡◌, ℕ, ◌+◌, ◌≤◌, length, List, [], ◌∷◌, ◌++◌, Bool, true, false, Option, Some, None, if◌then◌else◌}
+use Rattle.std.specs.Prelude.{◌≡◌, ℕ, ◌+◌, ◌≤◌, length, take, List, [], ◌∷◌, ◌++◌, Bool, true, false, Option, Some, None, if◌then◌else◌}
 use Rattle.wx_id.specs.declared.numbers.HostNo.{HostNo}
 use Rattle.wx_external.specs.World.{WorldLists}
 use Rattle.wx_machine.specs.declared.entries.Entry.{Entry}
 use Rattle.wx_machine.specs.Hosts.{hosts}
-use Rattle.wx_host_launch.specs.Records.{Writing, StarterState}
+use Rattle.wx_host_launch.specs.Records.{Writing, StarterState, taking_over}
 use Rattle.wx_host_slot.specs.Journals.{entries_of}
-use Rattle.wx_host_slot.specs.Slots.{SlotState, Stands, WasStarted, is_spent_at, turns_left}
+use Rattle.wx_host_slot.specs.Slots.{SlotState, Stands, WasStarted, closing_starter, is_spent_at, turns_left}
 use Rattle.wx_host_slot.specs.declared.slot.Served.{Served}
 use Rattle.wx_host_slot.specs.declared.slot.Served.TheVariants.{Moved, Rested}
 use Rattle.wx_run.specs.Hosts.{host_numbered, AreHostsWithin}
@@ -14,7 +14,8 @@ use Rattle.wx_run.specs.Hosts.{host_numbered, AreHostsWithin}
 -- each of these slots, of hosts numbered from n, stands to the journal
 abbrev pub SlotsStand : Option Writing → WorldLists → List Entry → ℕ → List SlotState → Type 0
 SlotsStand writing world past n [] = Unit {0}
-SlotsStand writing world past n (slot ∷ slots) = Stands writing world past (host_numbered n) slot × SlotsStand writing world past (n + 1) slots
+SlotsStand writing world past n (slot ∷ slots) =
+    Stands writing world past (host_numbered n) slot × SlotsStand writing world past (n + 1) slots
 
 -- Every host has its slot, but those that were called since slots were last added, which have made no entry.
 pub record HostsStand (writing : Option Writing) (world : WorldLists) (past : List Entry) (slots : List SlotState) : Type 0 where
@@ -27,6 +28,10 @@ pub record HostsStand (writing : Option Writing) (world : WorldLists) (past : Li
 abbrev pub AllWereStarted : List SlotState → Type 0
 AllWereStarted [] = Unit {0}
 AllWereStarted (slot ∷ slots) = WasStarted slot × AllWereStarted slots
+
+-- the same of so many slots, the first
+abbrev pub WereStartedBelow : ℕ → List SlotState → Type 0
+WereStartedBelow known slots = (known ≤ length slots) × AllWereStarted (take known slots)
 
 -- the first of these slots, numbered from n, whose host is spent
 abbrev pub first_spent_slot : ℕ → List SlotState → Option HostNo
@@ -50,6 +55,11 @@ AddsBehind old new = (more : List SlotState) × (new ≡ old ++ more)
 -- a starter that keeps so many places more
 abbrev pub keeping : ℕ → StarterState → StarterState
 keeping n starter = record starter { places = starter.places + n }
+
+-- a starter that took over the starters of these slots, one after the other
+abbrev pub absorbing : StarterState → List SlotState → StarterState
+absorbing starter [] = starter
+absorbing starter (slot ∷ slots) = absorbing (taking_over starter (closing_starter slot)) slots
 
 -- the host made an entry, or its program was started
 abbrev pub is_moved : Served → Bool

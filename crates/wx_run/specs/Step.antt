@@ -10,7 +10,8 @@ use Rattle.wx_machine.specs.Each.{EachAfter}
 use Rattle.wx_script.specs.Places.{next_of}
 use Rattle.wx_script.specs.Carries.{MayCome}
 use Rattle.wx_script.specs.Ends.{entries_by, entry_limit, is_idle}
-use Rattle.wx_endpoint.specs.History.{seen_by, CarriesOn}
+use Rattle.wx_desk.specs.History.{seen_by}
+use Rattle.wx_endpoint.specs.History.{CarriesOn}
 use Rattle.wx_endpoint.specs.Turn.{CursorState}
 use Rattle.wx_run.specs.Cursors.{cursor_of, is_spent_at}
 
@@ -19,7 +20,7 @@ pub record IsReady (world : WorldLists) (c : ContextNo) (cursor : CursorState) (
   pub legal : EachAfter (FollowsMachine world) past
   pub given : c.0 < contexts past
   pub behind : cursor ≡ cursor_of cursor.script c past
-  pub carries : CarriesOn cursor.script c (seen_by c past)
+  pub carries : CarriesOn cursor.script c (seen_by (ByContext c) past)
   pub unspent : is_spent_at cursor ≡ false
 
 -- Context c made the entry that its script asks for, with the machine's answer, and its cursor stands behind it.

@@ -2,12 +2,14 @@
 #![tactic(auto)]
 
 mod hosts;
+mod laws;
 mod opening;
 mod outcome;
 mod rounds;
 mod run;
 mod step;
 
+pub use laws::one_end;
 pub use outcome::{Outcome, RunEnd};
 pub use run::run_scene;
-pub use wx_script::SpentWho;
+pub use wx_script::{How, SpentWho};

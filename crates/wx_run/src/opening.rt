@@ -1,9 +1,10 @@
-ghost use Rattle.std.specs.Prelude.{◌≡◌, [], IfOk, OnOk, length, reverse, is_some};
+//! The opening of a run: each endpoint of the scene comes in, in order.
+ghost use Rattle.std.specs.Prelude.{◌≡◌, [], IfOk, OnErr, OnOk, length, reverse, is_some};
 ghost use Rattle.wx_machine.specs.Answers.{IsLegal};
 ghost use Rattle.wx_machine.specs.Contexts.{contexts};
 ghost use Rattle.wx_run.specs.Opening.{first_listen};
 ghost use Rattle.wx_run.specs.Opened.{AreBelow, IsOpened, OpenedSoFar};
-ghost use Rattle.wx_broker.specs.Steps.{Appends};
+ghost use Rattle.wx_broker.specs.Steps.{Appends, Stays};
 ghost use Rattle.wx_machine.specs.declared.entries.Who.TheVariants as Who;
 ghost use Rattle.wx_machine.specs.declared.entries.Call.TheVariants as Call;
 ghost use Rattle.wx_machine.specs.declared.entries.Answer.TheVariants as Answer;
@@ -12,7 +13,8 @@ use crate::step::make_turn;
 use std::alloc::Global;
 use wx_broker::Broker;
 use wx_context::Context;
-use wx_endpoint::{BrokerDesk, Cursor};
+use wx_desk::BrokerDesk;
+use wx_endpoint::Cursor;
 use wx_id::{ContextNo, NoMemory};
 use wx_script::{Act, Command, Scene, SceneEndpoint};
 
@@ -28,7 +30,9 @@ fn begins_with_listen(commands: &[Command]) -> bool
 
 /// Lets a context in.
 fn enter(broker: &mut Broker, context: &Context) -> Result<ContextNo, NoMemory>
-    ensures { IfOk result (λ c. Appends broker.old broker.new (Who.Context c) (Call.Enter context.now) (Answer.Entered c)) }
+    ensures entered { IfOk result (λ c.
+        Appends broker.old broker.new (Who.Context c) (Call.Enter context.now) (Answer.Entered c)) }
+    ensures refused { OnErr result (Stays broker.old broker.new) }
 {
     match broker.enter(context.try_clone()?) {
         Ok(c) => Ok(c),
@@ -44,7 +48,8 @@ fn open_one<'a>(
 ) -> Result<Cursor<'a>, NoMemory>
     requires legal { IsLegal desk.old.broker.world desk.old.broker.entries }
     requires all_in { AreBelow (contexts (reverse desk.old.broker.entries)) (reverse desk.old.broker.entries) }
-    ensures opened { IfOk result (λ cursor. IsOpened desk.old.broker.world endpoint.now cursor (reverse desk.old.broker.entries) (reverse desk.new.broker.entries)) }
+    ensures opened { IfOk result (λ cursor. IsOpened desk.old.broker.world endpoint.now cursor
+        (reverse desk.old.broker.entries) (reverse desk.new.broker.entries)) }
     ensures same_world { OnOk result (desk.new.broker.world ≡ desk.old.broker.world) }
 {
     desk.context = enter(&mut desk.broker, &endpoint.context)?;
@@ -62,7 +67,8 @@ pub fn open<'a>(
     desk: &mut BrokerDesk,
 ) -> Result<Vec<Cursor<'a>>, NoMemory>
     requires { desk.old.broker.entries ≡ [] }
-    ensures opened { IfOk result (λ cursors. OpenedSoFar desk.old.broker.world scene.now.endpoints (length scene.now.endpoints) cursors.items (reverse desk.new.broker.entries)) }
+    ensures opened { IfOk result (λ cursors. OpenedSoFar desk.old.broker.world scene.now.endpoints
+        (length scene.now.endpoints) cursors.items (reverse desk.new.broker.entries)) }
     ensures same_world { OnOk result (desk.new.broker.world ≡ desk.old.broker.world) }
 {
     let mut cursors = Vec::new(alloc);

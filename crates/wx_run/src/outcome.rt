@@ -1,3 +1,4 @@
+//! What a run leaves, and how it ends.
 use wx_journal::Journal;
 use wx_script::SpentWho;
 
@@ -6,10 +7,10 @@ use wx_script::SpentWho;
 pub enum RunEnd {
     /// Every script and every host has ended.
     Done,
-    /// Some script has not ended, no endpoint is spent, each script that has not ended waits with nothing pending, and every
-    /// host has ended.
+    /// Some script has not ended, no endpoint is spent, each script that has not ended waits with nothing pending, and
+    /// every host has ended.
     Stalled,
-    /// It stopped behind the entry with which this endpoint or host had made as many as it may, and had not ended.
+    /// It stopped after the entry with which this endpoint or host had made as many as it may, and had not ended.
     Spent(SpentWho),
 }
 

@@ -1,7 +1,8 @@
-ghost use Rattle.std.specs.Prelude.{◌≡◌, IfOk, OnOk, None, reverse, if◌then◌else◌};
+//! Rounds: the turns of all endpoints and of all hosts, one round after the other.
+ghost use Rattle.std.specs.Prelude.{◌≡◌, ℕ, IfOk, OnOk, None, reverse, if◌then◌else◌};
 ghost use Rattle.wx_host_slot.specs.Slots.{slots_of};
 ghost use Rattle.wx_run.specs.Cursors.{scripts_in, first_spent_in, all_left};
-ghost use Rattle.wx_run.specs.Slots.{HostsStand};
+ghost use Rattle.wx_run.specs.Slots.{HostsStand, WereStartedBelow};
 ghost use Rattle.wx_run.specs.Round.{AllStand, IsRound, RoundLessens};
 ghost use Rattle.wx_run.specs.Running.{AreReady, IsWholeRound, IsNextRound, turns_in, TurnsLessen, KeepsPlaces, AreRounds};
 
@@ -9,7 +10,8 @@ use crate::hosts::{add_slots, hear_first, serve_hosts};
 use crate::outcome::RunEnd;
 use crate::step::make_turn;
 use std::alloc::Global;
-use wx_endpoint::{BrokerDesk, Cursor};
+use wx_desk::BrokerDesk;
+use wx_endpoint::Cursor;
 use wx_host_launch::Starter;
 use wx_host_slot::HostSlot;
 use wx_id::{ContextNo, NoMemory};
@@ -22,7 +24,7 @@ pub enum Rounded {
     Moved,
     /// Nobody could do anything.
     Idle,
-    /// This endpoint or host is spent by the last entry, and behind it the round was cut short.
+    /// This endpoint or host is spent by the last entry, and after it the round was cut short.
     Spent(SpentWho),
 }
 
@@ -40,11 +42,15 @@ fn end_of(cursors: &[Cursor<'_>]) -> RunEnd
 
 /// The endpoints' part of a round: a turn of each, in rising number, up to the entry by which one is spent.
 fn round(cursors: &mut Vec<Cursor<'_>>, desk: &mut BrokerDesk) -> Result<Rounded, NoMemory>
-    requires stand { AllStand desk.old.broker.world (scripts_in cursors.old.items) cursors.old.items (reverse desk.old.broker.entries) }
+    requires stand { AllStand desk.old.broker.world (scripts_in cursors.old.items) cursors.old.items
+        (reverse desk.old.broker.entries) }
     requires unspent { first_spent_in 0 cursors.old.items ≡ None }
-    ensures stand { OnOk result (AllStand desk.old.broker.world (scripts_in cursors.old.items) cursors.new.items (reverse desk.new.broker.entries)) }
-    ensures round { IfOk result (λ rounded. IsRound (scripts_in cursors.old.items) cursors.new.items (reverse desk.old.broker.entries) (reverse desk.new.broker.entries) rounded) }
-    ensures less { IfOk result (λ rounded. RoundLessens cursors.old.items cursors.new.items (reverse desk.old.broker.entries) (reverse desk.new.broker.entries) rounded) }
+    ensures stand { OnOk result (AllStand desk.old.broker.world (scripts_in cursors.old.items) cursors.new.items
+        (reverse desk.new.broker.entries)) }
+    ensures round { IfOk result (λ rounded. IsRound (scripts_in cursors.old.items) cursors.new.items
+        (reverse desk.old.broker.entries) (reverse desk.new.broker.entries) rounded) }
+    ensures less { IfOk result (λ rounded. RoundLessens cursors.old.items cursors.new.items
+        (reverse desk.old.broker.entries) (reverse desk.new.broker.entries) rounded) }
     ensures same_world { OnOk result (desk.new.broker.world ≡ desk.old.broker.world) }
 {
     let mut moved = false;
@@ -59,8 +65,9 @@ fn round(cursors: &mut Vec<Cursor<'_>>, desk: &mut BrokerDesk) -> Result<Rounded
     Ok(if moved { Rounded::Moved } else { Rounded::Idle })
 }
 
-/// A whole round: the turns of all endpoints, and then of all hosts, those included that were called in it, which alone can
-/// fail to start; or its first turns, up to the entry by which someone is spent.
+/// A whole round: the turns of all endpoints, and then of all hosts, those included that were called in it, of which
+/// those alone can fail to start that were not started before; or its first turns, up to the entry by which someone is
+/// spent.
 fn whole_round<P: Starter>(
     alloc: Global,
     cursors: &mut Vec<Cursor<'_>>,
@@ -68,12 +75,20 @@ fn whole_round<P: Starter>(
     desk: &mut BrokerDesk,
     starter: &mut P,
 ) -> Result<Rounded, NoMemory>
-    requires { AreReady (P.state starter.old).writing desk.old.broker.world (scripts_in cursors.old.items) cursors.old.items (slots_of P.state slots.old.items) (reverse desk.old.broker.entries) }
-    ensures stand { OnOk result (AllStand desk.old.broker.world (scripts_in cursors.old.items) cursors.new.items (reverse desk.new.broker.entries)) }
-    ensures hosts_stand { OnOk result (HostsStand (P.state starter.old).writing desk.old.broker.world (reverse desk.new.broker.entries) (slots_of P.state slots.new.items)) }
-    ensures round { IfOk result (λ rounded. IsWholeRound (scripts_in cursors.old.items) cursors.new.items (slots_of P.state slots.new.items) (reverse desk.old.broker.entries) (reverse desk.new.broker.entries) rounded) }
-    ensures less { IfOk result (λ rounded. TurnsLessen (turns_in cursors.old.items (slots_of P.state slots.old.items)) (turns_in cursors.new.items (slots_of P.state slots.new.items)) rounded) }
-    ensures kept { OnOk result (KeepsPlaces (slots_of P.state slots.old.items) (slots_of P.state slots.new.items) (P.state starter.old) (P.state starter.new)) }
+    requires { AreReady (P.state starter.old).writing desk.old.broker.world (scripts_in cursors.old.items)
+        cursors.old.items (slots_of P.state slots.old.items) (reverse desk.old.broker.entries) }
+    ensures stand { OnOk result (AllStand desk.old.broker.world (scripts_in cursors.old.items) cursors.new.items
+        (reverse desk.new.broker.entries)) }
+    ensures hosts_stand { OnOk result
+        (HostsStand (P.state starter.old).writing desk.old.broker.world (reverse desk.new.broker.entries)
+        (slots_of P.state slots.new.items)) }
+    ensures round { (known : ℕ) → WereStartedBelow known (slots_of P.state slots.old.items)
+        → IfOk result (λ rounded. IsWholeRound known (scripts_in cursors.old.items) cursors.new.items
+        (slots_of P.state slots.new.items) (reverse desk.old.broker.entries) (reverse desk.new.broker.entries) rounded) }
+    ensures less { IfOk result (λ rounded. TurnsLessen (turns_in cursors.old.items (slots_of P.state slots.old.items))
+        (turns_in cursors.new.items (slots_of P.state slots.new.items)) rounded) }
+    ensures kept { OnOk result (KeepsPlaces (slots_of P.state slots.old.items) (slots_of P.state slots.new.items)
+        (P.state starter.old) (P.state starter.new)) }
     ensures same_world { OnOk result (desk.new.broker.world ≡ desk.old.broker.world) }
 {
     let turns = round(cursors, desk)?;
@@ -81,14 +96,14 @@ fn whole_round<P: Starter>(
         return Ok(turns);
     }
     add_slots(&desk.broker, slots, starter)?;
-    match serve_hosts(alloc, &mut desk.broker, slots)? {
+    match serve_hosts(alloc, desk, slots)? {
         Rounded::Idle => Ok(turns),
         served => Ok(served),
     }
 }
 
-/// The next round of a run: a whole round, or its first turns, up to the entry by which someone is spent; or, where nobody can do
-/// anything, the turn of the first host that has not ended.
+/// The next round of a run: a whole round, or its first turns, up to the entry by which someone is spent; or, where
+/// nobody can do anything, the turn of the first host that has not ended.
 fn next_round<P: Starter>(
     alloc: Global,
     cursors: &mut Vec<Cursor<'_>>,
@@ -96,16 +111,24 @@ fn next_round<P: Starter>(
     desk: &mut BrokerDesk,
     starter: &mut P,
 ) -> Result<Rounded, NoMemory>
-    requires { AreReady (P.state starter.old).writing desk.old.broker.world (scripts_in cursors.old.items) cursors.old.items (slots_of P.state slots.old.items) (reverse desk.old.broker.entries) }
-    ensures stand { OnOk result (AllStand desk.old.broker.world (scripts_in cursors.old.items) cursors.new.items (reverse desk.new.broker.entries)) }
-    ensures hosts_stand { OnOk result (HostsStand (P.state starter.old).writing desk.old.broker.world (reverse desk.new.broker.entries) (slots_of P.state slots.new.items)) }
-    ensures round { IfOk result (λ rounded. IsNextRound (scripts_in cursors.old.items) cursors.new.items (slots_of P.state slots.new.items) (reverse desk.old.broker.entries) (reverse desk.new.broker.entries) rounded) }
-    ensures less { IfOk result (λ rounded. TurnsLessen (turns_in cursors.old.items (slots_of P.state slots.old.items)) (turns_in cursors.new.items (slots_of P.state slots.new.items)) rounded) }
-    ensures kept { OnOk result (KeepsPlaces (slots_of P.state slots.old.items) (slots_of P.state slots.new.items) (P.state starter.old) (P.state starter.new)) }
+    requires { AreReady (P.state starter.old).writing desk.old.broker.world (scripts_in cursors.old.items)
+        cursors.old.items (slots_of P.state slots.old.items) (reverse desk.old.broker.entries) }
+    ensures stand { OnOk result (AllStand desk.old.broker.world (scripts_in cursors.old.items) cursors.new.items
+        (reverse desk.new.broker.entries)) }
+    ensures hosts_stand { OnOk result
+        (HostsStand (P.state starter.old).writing desk.old.broker.world (reverse desk.new.broker.entries)
+        (slots_of P.state slots.new.items)) }
+    ensures round { (known : ℕ) → WereStartedBelow known (slots_of P.state slots.old.items)
+        → IfOk result (λ rounded. IsNextRound known (scripts_in cursors.old.items) cursors.new.items
+        (slots_of P.state slots.new.items) (reverse desk.old.broker.entries) (reverse desk.new.broker.entries) rounded) }
+    ensures less { IfOk result (λ rounded. TurnsLessen (turns_in cursors.old.items (slots_of P.state slots.old.items))
+        (turns_in cursors.new.items (slots_of P.state slots.new.items)) rounded) }
+    ensures kept { OnOk result (KeepsPlaces (slots_of P.state slots.old.items) (slots_of P.state slots.new.items)
+        (P.state starter.old) (P.state starter.new)) }
     ensures same_world { OnOk result (desk.new.broker.world ≡ desk.old.broker.world) }
 {
     match whole_round(alloc, cursors, slots, desk, starter)? {
-        Rounded::Idle => hear_first(&mut desk.broker, slots),
+        Rounded::Idle => hear_first(desk, slots),
         rounded => Ok(rounded),
     }
 }
@@ -118,10 +141,16 @@ pub fn run_rounds<P: Starter>(
     desk: &mut BrokerDesk,
     starter: &mut P,
 ) -> Result<RunEnd, NoMemory>
-    requires { AreReady (P.state starter.old).writing desk.old.broker.world (scripts_in cursors.old.items) cursors.old.items (slots_of P.state slots.old.items) (reverse desk.old.broker.entries) }
-    ensures rounds { IfOk result (λ end. AreRounds (scripts_in cursors.old.items) (reverse desk.old.broker.entries) (reverse desk.new.broker.entries) end) }
-    ensures hosts_stand { OnOk result (HostsStand (P.state starter.old).writing desk.old.broker.world (reverse desk.new.broker.entries) (slots_of P.state slots.new.items)) }
-    ensures kept { OnOk result (KeepsPlaces (slots_of P.state slots.old.items) (slots_of P.state slots.new.items) (P.state starter.old) (P.state starter.new)) }
+    requires { AreReady (P.state starter.old).writing desk.old.broker.world (scripts_in cursors.old.items)
+        cursors.old.items (slots_of P.state slots.old.items) (reverse desk.old.broker.entries) }
+    ensures rounds { (known : ℕ) → WereStartedBelow known (slots_of P.state slots.old.items)
+        → IfOk result (λ end. AreRounds known (scripts_in cursors.old.items) (reverse desk.old.broker.entries)
+        (reverse desk.new.broker.entries) end) }
+    ensures hosts_stand { OnOk result
+        (HostsStand (P.state starter.old).writing desk.old.broker.world (reverse desk.new.broker.entries)
+        (slots_of P.state slots.new.items)) }
+    ensures kept { OnOk result (KeepsPlaces (slots_of P.state slots.old.items) (slots_of P.state slots.new.items)
+        (P.state starter.old) (P.state starter.new)) }
     ensures same_world { OnOk result (desk.new.broker.world ≡ desk.old.broker.world) }
 {
     loop {

@@ -13,7 +13,8 @@ use Rattle.wx_context.specs.Paths.{is_printable}
 use Rattle.wx_script.specs.declared.line.Awaited.{Awaited}
 use Rattle.wx_script.specs.declared.line.Awaited.TheVariants as event
 use Rattle.wx_script.specs.Words.{word, rest, behind, is_name, is_word, is_given, is_small, is_comment}
-use Rattle.wx_script.specs.Line.{NamedTarget, own, tab, NamedAct, NamedCommand, Document, NamedContext, Line, listen, connect, take_one, echo, plain, repeat, content, web, comment, endpoint, script, listens_to_nothing, name_at, count_at, tab_id_at, frame_id_at, file_at, extension_at, host_at, page_at, document_at, content_at, web_at, context_with, endpoint_with, flag_at, flags_at, listen_at, extension_target_at, frame_at, tab_with, tab_at, target_at, port_name_at, connect_at, post_at, disconnect_at, channel_act_with, native_at, ask_at, native_act_with, send_at, reply_with, reply_at, decline_at, request_act_with, awaited_at, await_at, echo_at, act_with, act_at, repeat_at, command_at, declaration_with, declaration_at, line_at}
+use Rattle.wx_machine.specs.Contexts.{deaf}
+use Rattle.wx_script.specs.Line.{NamedTarget, own, tab, NamedAct, NamedCommand, Document, NamedContext, Line, listen, connect, take_one, echo, plain, repeat, content, web, comment, endpoint, script, name_at, count_at, tab_id_at, frame_id_at, file_at, extension_at, host_at, page_at, document_at, content_at, web_at, context_with, endpoint_with, flag_at, flags_at, listen_at, extension_target_at, frame_at, tab_with, tab_at, target_at, port_name_at, connect_at, post_at, disconnect_at, channel_act_with, native_at, ask_at, native_act_with, send_at, reply_with, reply_at, decline_at, request_act_with, awaited_at, await_at, echo_at, act_with, act_at, repeat_at, command_at, declaration_with, declaration_at, line_at}
 use Rattle.wx_script.specs.Spelling.{◌␣◌, flag_ahead, flag_words, target_spelling, port_spelling, event_word, act_spelling, command_spelling, document_spelling, endpoint_spelling, spelling, IsNamedTarget, may_follow, IsNamedAct, IsNamedCommand, IsDocument, IsNamedContext, IsFile, IsLine}
 use Rattle.wx_id.proofs.OptionLemmas.{bind_some}
 use Rattle.wx_script.proofs.Chosen.{chosen}
@@ -224,7 +225,7 @@ listen_read : (text : List ℕ) (a : NamedAct) → listen_at text ≡ Some a →
 unfolding listen_at
 listen_read text a e =
     elim (chosen (bytes_eq text (codes "none")) _ _ _ e) [
-      | inl h ↦ rw (same text (codes "none") h.0) (subst (λ a. IsReadAsAct a (codes "listen" ␣ codes "none")) (let e : listen listens_to_nothing ≡ a = cc in e) (record { is_act = tt; spelled = refl }))
+      | inl h ↦ rw (same text (codes "none") h.0) (subst (λ a. IsReadAsAct a (codes "listen" ␣ codes "none")) (let e : listen deaf ≡ a = cc in e) (record { is_act = tt; spelled = refl }))
       | inr h ↦
           let q = cond_some _ _ _ h.1 in
           let read : Some text ≡ flag_words (flags_at text).0 = flags_read text (none_left (flags_at text).1 q.0) in

@@ -13,7 +13,8 @@ use Rattle.std.proofs.lemmas.Fmt.{digits_decimal, digits_value-decimal, decimal-
 use Rattle.wx_script.specs.Words.{is_digit, is_number, is_given, is_small, is_count}
 use Rattle.wx_id.specs.declared.numbers.TabId.{TabId}
 use Rattle.wx_id.specs.declared.numbers.FrameId.{FrameId}
-use Rattle.wx_script.specs.Line.{number_at, count_at, tab_id, tab_id_at, frame_id, frame_id_at, where_so}
+use Rattle.wx_id.specs.Options.{where_so}
+use Rattle.wx_script.specs.Line.{number_at, count_at, tab_id, tab_id_at, frame_id, frame_id_at}
 use Rattle.std.specs.Result.{OkIff}
 use Rattle.wx_id.proofs.OptionLemmas.{bind_some}
 use Rattle.wx_context.proofs.PathLemmas.{IsUtf8-from_list_all}

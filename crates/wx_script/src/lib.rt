@@ -12,7 +12,7 @@ mod script;
 mod word;
 
 pub use scene::{
-    Scene, SceneEndpoint, SceneExtension, SceneFault, SceneFile, SceneKind, SceneReadFault,
+    How, Scene, SceneEndpoint, SceneExtension, SceneFault, SceneFile, SceneKind, SceneReadFault,
     SpentWho,
 };
 pub use script::{Act, Command, Heard, Received, Script, Var};

@@ -74,6 +74,15 @@ pub struct SceneFault {
     pub kind: SceneKind,
 }
 
+/// How a scene is run.
+#[derive(Clone, Copy, Debug, PartialEq, Eq)]
+pub enum How {
+    /// In rounds, on one thread.
+    Rounds,
+    /// With threads of its endpoints and hosts.
+    Threads,
+}
+
 /// Who has made as many entries as a run allows, and has not ended.
 #[derive(Clone, Copy, Debug, PartialEq, Eq)]
 pub enum SpentWho {

@@ -62,7 +62,8 @@ fn pattern_text(alloc: Global, n: u64, fault: PatternFault) -> Result<String, Al
 
 /// A faulty pattern of `matches`.
 fn bad_pattern(alloc: Global, n: u64, fault: PatternFault) -> Result<String, AllocError>
-    ensures { IfOk result (λ text. string_bytes text ≡ manifests.about (codes "bad_pattern") (manifests.pattern_text n fault)) }
+    ensures { IfOk result (λ text. string_bytes text
+        ≡ manifests.about (codes "bad_pattern") (manifests.pattern_text n fault)) }
 {
     let place = pattern_text(alloc, n, fault)?;
     about(alloc, "bad_pattern", place.as_str())

@@ -1,6 +1,7 @@
+//! How a line and a text are told.
 ghost use Rattle.std.specs.Prelude.{◌≡◌};
 ghost use Rattle.wx_status.specs.declared.status.Status.TheVariants as status;
-ghost use Rattle.wx_status.specs.Changes.{WasTried};
+ghost use Rattle.wx_status.specs.Changes.{WasTried, over};
 ghost use Rattle.wx_status.specs.Lines.{write_fault_line};
 ghost use Rattle.wx_status.specs.Told.{ToldText, ToldRun, ToldNoMemory, LineTold, LinesTold};
 
@@ -9,7 +10,7 @@ use wx_outside::{Failed, Sink};
 
 /// Writes the line of an answer.
 pub fn tell_line<E: Sink>(answer: Status, line: &[u8], err: &mut E) -> Status
-    ensures { LineTold answer line.now (record { before = E.written err.old; after = E.written err.new; faults_before = E.faults err.old; faults_after = E.faults err.new }) result }
+    ensures { LineTold answer line.now (over (E.state err.old) (E.state err.new)) result }
 {
     match err.write(line) {
         Ok(()) => answer,
@@ -19,7 +20,7 @@ pub fn tell_line<E: Sink>(answer: Status, line: &[u8], err: &mut E) -> Status
 
 /// Tries the line of want of memory.
 pub fn tell_no_memory<E: Sink>(err: &mut E) -> Status
-    ensures { ToldNoMemory (record { before = E.written err.old; after = E.written err.new; faults_before = E.faults err.old; faults_after = E.faults err.new }) result }
+    ensures { ToldNoMemory (over (E.state err.old) (E.state err.new)) result }
 {
     match err.write(b"wx: no memory\n") {
         Ok(()) => Status::NoMemory,
@@ -30,7 +31,7 @@ pub fn tell_no_memory<E: Sink>(err: &mut E) -> Status
 /// Tries the line of a failed write.
 fn tell_write_fault<E: Sink>(err: &mut E) -> Status
     ensures is { result ≡ status.WriteFault }
-    ensures tried { WasTried (record { before = E.written err.old; after = E.written err.new; faults_before = E.faults err.old; faults_after = E.faults err.new }) write_fault_line }
+    ensures tried { WasTried (over (E.state err.old) (E.state err.new)) write_fault_line }
 {
     match err.write(b"wx: write fault\n") {
         Ok(()) => Status::WriteFault,
@@ -41,8 +42,7 @@ fn tell_write_fault<E: Sink>(err: &mut E) -> Status
 /// Writes the text of an answer. Where there is none, nothing is written.
 pub fn tell_text<O: Sink, E: Sink>(answer: Status, text: &[u8], out: &mut O, err: &mut E) -> Status
     ensures { ToldText answer text.now
-        (record { before = O.written out.old; after = O.written out.new; faults_before = O.faults out.old; faults_after = O.faults out.new })
-        (record { before = E.written err.old; after = E.written err.new; faults_before = E.faults err.old; faults_after = E.faults err.new }) result }
+        (over (O.state out.old) (O.state out.new)) (over (E.state err.old) (E.state err.new)) result }
 {
     if text.is_empty() {
         return answer;
@@ -55,7 +55,7 @@ pub fn tell_text<O: Sink, E: Sink>(answer: Status, text: &[u8], out: &mut O, err
 
 /// Writes the lines of an answer. Where there are none, nothing is written.
 fn tell_lines<E: Sink>(answer: Status, lines: &[u8], err: &mut E) -> Status
-    ensures { LinesTold answer lines.now (record { before = E.written err.old; after = E.written err.new; faults_before = E.faults err.old; faults_after = E.faults err.new }) result }
+    ensures { LinesTold answer lines.now (over (E.state err.old) (E.state err.new)) result }
 {
     if lines.is_empty() {
         answer
@@ -64,7 +64,7 @@ fn tell_lines<E: Sink>(answer: Status, lines: &[u8], err: &mut E) -> Status
     }
 }
 
-/// Writes the journal's text of a run, and behind it the lines of its answer.
+/// Writes the journal's text of a run, and after it the lines of its answer.
 pub fn tell_run<O: Sink, E: Sink>(
     answer: Status,
     journal: &[u8],
@@ -73,8 +73,7 @@ pub fn tell_run<O: Sink, E: Sink>(
     err: &mut E,
 ) -> Status
     ensures { ToldRun answer journal.now lines.now
-        (record { before = O.written out.old; after = O.written out.new; faults_before = O.faults out.old; faults_after = O.faults out.new })
-        (record { before = E.written err.old; after = E.written err.new; faults_before = E.faults err.old; faults_after = E.faults err.new }) result }
+        (over (O.state out.old) (O.state out.new)) (over (E.state err.old) (E.state err.new)) result }
 {
     if out.write(journal).is_err() {
         return tell_write_fault(err);

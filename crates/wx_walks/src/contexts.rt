@@ -168,7 +168,7 @@ fn is_extension(own: Option<&ExtensionId>, id: &ExtensionId) -> bool
     ensures { result ≡ is_extension (option_copied own.entry) id.now }
 {
     match own {
-        Some(ext) => *ext == *id,
+        Some(ext) => ext.is(id),
         None => false,
     }
 }

@@ -7,4 +7,5 @@ mod readers;
 mod run;
 
 pub use plain::{PlainCommand, plain_command};
-pub use run::scene_named;
+pub use run::{how_asked, scene_named};
+pub use wx_script::How;

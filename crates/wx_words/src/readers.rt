@@ -1,3 +1,4 @@
+//! The simple commands of `clap` that count and read words.
 ghost use Rattle.std.specs.Prelude.{◌≡◌, ◌↔◌, IfOk, IsTrue, false, map, string_bytes};
 ghost use Rattle.clap.specs.Words.{FailsBy, app_of, fault_of, found_of, kind_of, matches_of, rows_of, rule_of};
 ghost use Rattle.wx_words.specs.Readers as readers;
@@ -32,7 +33,8 @@ fn bare<'a>(alloc: Global, name: &'a str) -> Command<'a>
 
 /// What clap reads of the words of `match`.
 pub(crate) fn read_match<'a>(alloc: Global, words: &'a [String]) -> Result<ArgMatches<'a>, Error>
-    ensures matches { IfOk result (λ m. rows_of (found_of m) ≡ matches_of readers.match_reader (map string_bytes words.entry.now)) }
+    ensures matches { IfOk result (λ m. rows_of (found_of m)
+        ≡ matches_of readers.match_reader (map string_bytes words.entry.now)) }
     ensures kinds { FailsBy (fault_of readers.match_reader (map string_bytes words.entry.now)) result }
 {
     let command = bare(alloc, "match")
@@ -47,7 +49,8 @@ pub(crate) fn read_file<'a>(
     name: &'a str,
     words: &'a [String],
 ) -> Result<ArgMatches<'a>, Error>
-    ensures matches { IfOk result (λ m. rows_of (found_of m) ≡ matches_of (readers.file_reader name.entry.now) (map string_bytes words.entry.now)) }
+    ensures matches { IfOk result (λ m. rows_of (found_of m)
+        ≡ matches_of (readers.file_reader name.entry.now) (map string_bytes words.entry.now)) }
     ensures kinds { FailsBy (fault_of (readers.file_reader name.entry.now) (map string_bytes words.entry.now)) result }
 {
     let command = bare(alloc, name).arg(wanted(alloc, "file"))?;
@@ -56,7 +59,8 @@ pub(crate) fn read_file<'a>(
 
 /// What clap reads of the words of `run`.
 pub(crate) fn read_run<'a>(alloc: Global, words: &'a [String]) -> Result<ArgMatches<'a>, Error>
-    ensures matches { IfOk result (λ m. rows_of (found_of m) ≡ matches_of readers.run_reader (map string_bytes words.entry.now)) }
+    ensures matches { IfOk result (λ m. rows_of (found_of m)
+        ≡ matches_of readers.run_reader (map string_bytes words.entry.now)) }
     ensures kinds { FailsBy (fault_of readers.run_reader (map string_bytes words.entry.now)) result }
 {
     let rounds = Arg::new(alloc, "rounds")

@@ -9,13 +9,13 @@ use Rattle.wx_outside.specs.Causes.{Rose}
 use Rattle.wx_outside.specs.Shelf.{Files, Content, Tells}
 use Rattle.wx_script.specs.declared.scene.SceneFile.{SceneFile}
 use Rattle.wx_script.specs.SceneValue.{SceneValue}
-use Rattle.wx_external.specs.World.{WorldLists}
+use Rattle.wx_external.specs.World.{WorldLists, empty_world}
 use Rattle.wx_world.specs.declared.faults.FileKind.{FileKind}
 use Rattle.wx_world.specs.declared.faults.FileRefusal.{FileRefusal}
 use Rattle.wx_world.specs.declared.faults.WorldFault.{WorldFault}
 use Rattle.wx_world.specs.declared.faults.WorldFault.TheVariants.{Refused, ReadFailed, NoMemory}
 use Rattle.wx_world.specs.Names.{name_of}
-use Rattle.wx_world.specs.Files.{FileContent, file_added, unless_refused, files_added, world_from, empty_world, content_on, contents_on, world_of}
+use Rattle.wx_world.specs.Files.{FileContent, file_added, unless_refused, files_added, world_from, content_on, contents_on, world_of}
 use Rattle.wx_world.specs.Reading.{Stands, ComesOf, IsWorldOf, IsFirstRefusal, HasFailedAt, HasCause, IsAdded, IsRefused, AddsNothing}
 
 -- ---- file after file

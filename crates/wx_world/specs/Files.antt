@@ -1,5 +1,6 @@
 -- What the files hold that a scene names, file after file.
 use Rattle.std.specs.Prelude.{ℕ, ◌+◌, List, [], ◌∷◌, ◌++◌, map, Option, Some, None, slice_get, Result, Ok, Err, if◌then◌else◌}
+use Rattle.wx_id.specs.Results.{◌>>=◌, told_as}
 use Rattle.wx_outside.specs.Shelf.{Files, Content, present, absent, too_large, content_at}
 use Rattle.wx_script.specs.declared.scene.SceneExtension.{SceneExtension}
 use Rattle.wx_script.specs.declared.scene.SceneFile.{SceneFile}
@@ -8,21 +9,11 @@ use Rattle.wx_script.specs.SceneValue.{SceneValue}
 use Rattle.wx_script.specs.Words.{file_name}
 use Rattle.wx_manifest.specs.ExtensionManifests.{Manifest, extension_of}
 use Rattle.wx_host_manifest.specs.HostManifests as hosts
-use Rattle.wx_external.specs.World.{WorldLists, holds_id, holds_name}
+use Rattle.wx_external.specs.World.{WorldLists, empty_world, holds_id, holds_name}
 use Rattle.wx_world.specs.declared.faults.FileKind.{FileKind}
 use Rattle.wx_world.specs.declared.faults.FileKind.TheVariants as kind
 use Rattle.wx_world.specs.declared.faults.FileRefusal.{FileRefusal}
 use Rattle.wx_world.specs.Names.{name_of}
-
-infixl 10 ◌>>=◌
-abbrev pub ◌>>=◌ : {A B : Type 0} → Result A FileKind → (A → Result B FileKind) → Result B FileKind
-(Ok x) >>= f = f x
-(Err kind) >>= f = Err kind
-
--- a manifest, or the refusal of its fault
-abbrev pub or_refusal : {A F : Type 0} → (F → FileKind) → Result A F → Result A FileKind
-or_refusal refusal (Ok manifest) = Ok manifest
-or_refusal refusal (Err fault) = Err (refusal fault)
 
 -- the bytes that stand there, or why the file is refused
 abbrev pub bytes_in : Content → Result (List ℕ) FileKind
@@ -34,17 +25,13 @@ bytes_in (present bytes) = Ok bytes
 abbrev pub extension_in : Content → Result Manifest FileKind
 extension_in content = do
   bytes ← bytes_in content
-  or_refusal kind.Extension (extension_of bytes)
+  told_as kind.Extension (extension_of bytes)
 
 -- the host's manifest that stands under this name, or why it is refused
 abbrev pub host_in : List ℕ → Content → Result hosts.Host FileKind
 host_in name content = do
   bytes ← bytes_in content
-  or_refusal kind.Host (hosts.host_of (file_name name) bytes)
-
--- the world that holds nothing
-abbrev pub empty_world : WorldLists
-empty_world = record { extensions = []; hosts = [] }
+  told_as kind.Host (hosts.host_of (file_name name) bytes)
 
 -- the world with an extension's manifest; one with that id that is there already stays
 abbrev pub with_extension : WorldLists → List ℕ → Manifest → WorldLists

@@ -1,3 +1,4 @@
+//! Why the files of a scene make no world.
 use wx_host_manifest::HostFault;
 use wx_manifest::ManifestFault;
 

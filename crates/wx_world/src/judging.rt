@@ -1,4 +1,6 @@
+//! Judges what stands in a file of a scene, and adds it to the world.
 ghost use Rattle.std.specs.Prelude.{◌≡◌, Ok, Err, IfOk, IfErr, OnOk, option_copied};
+ghost use Rattle.wx_id.specs.Results.{told_as};
 ghost use Rattle.wx_outside.specs.Shelf.{content};
 ghost use Rattle.wx_manifest.specs.ExtensionManifests.{extension_of};
 ghost use Rattle.wx_host_manifest.specs.HostManifests.{host_of};
@@ -30,8 +32,8 @@ fn bytes_in(found: &Found) -> Result<&[u8], FileKind>
 
 /// The manifest of an extension that these bytes hold.
 fn read_extension(alloc: Global, bytes: &[u8]) -> Result<Extension, FileFault>
-    ensures ok { IfOk result (λ manifest. spec.or_refusal kind.Extension (extension_of bytes.now) ≡ Ok manifest) }
-    ensures err { IfErr result (λ fault. Refuses (spec.or_refusal kind.Extension (extension_of bytes.now)) fault) }
+    ensures ok { IfOk result (λ manifest. told_as kind.Extension (extension_of bytes.now) ≡ Ok manifest) }
+    ensures err { IfErr result (λ fault. Refuses (told_as kind.Extension (extension_of bytes.now)) fault) }
 {
     match Extension::read(alloc, bytes) {
         Ok(manifest) => Ok(manifest),
@@ -42,8 +44,8 @@ fn read_extension(alloc: Global, bytes: &[u8]) -> Result<Extension, FileFault>
 
 /// The manifest of a host that these bytes hold, which stand under this name.
 fn read_host(alloc: Global, name: &str, bytes: &[u8]) -> Result<HostManifest, FileFault>
-    ensures ok { IfOk result (λ host. spec.or_refusal kind.Host (host_of (words.file_name name.now) bytes.now) ≡ Ok host) }
-    ensures err { IfErr result (λ fault. Refuses (spec.or_refusal kind.Host (host_of (words.file_name name.now) bytes.now)) fault) }
+    ensures ok { IfOk result (λ host. told_as kind.Host (host_of (words.file_name name.now) bytes.now) ≡ Ok host) }
+    ensures err { IfErr result (λ fault. Refuses (told_as kind.Host (host_of (words.file_name name.now) bytes.now)) fault) }
 {
     match HostManifest::read(alloc, file_name(name), bytes) {
         Ok(host) => Ok(host),

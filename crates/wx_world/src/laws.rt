@@ -1,3 +1,4 @@
+//! The law of worlds.
 ghost use Rattle.std.specs.Prelude.{◌≡◌, Some, Ok, Err};
 ghost use Rattle.wx_outside.specs.Shelf.{Files};
 ghost use Rattle.wx_script.specs.SceneValue.{SceneValue};

@@ -1,4 +1,4 @@
-// The names of a scene's files.
+//! The names of a scene's files.
 ghost use Rattle.std.specs.Prelude.{◌≡◌, option_copied, slice_get};
 ghost use Rattle.wx_world.specs.Names as names;
 

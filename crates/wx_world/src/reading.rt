@@ -1,3 +1,4 @@
+//! Reads the files that a scene names, one after another.
 ghost use Rattle.std.specs.Prelude.{◌≡◌, ◌≤◌, IfOk, IfErr, OnOk};
 ghost use Rattle.wx_world.specs.declared.faults.WorldFault.TheVariants as fault;
 ghost use Rattle.wx_world.specs.Reading.{IsAdded, AddsNothing, IsWorldOf, HasCause, IsOfAFile};
@@ -25,10 +26,11 @@ fn add_file<F: Shelf>(
     world: &mut World,
     shelf: &mut F,
 ) -> Result<(), WorldFault>
-    ensures ok { OnOk result (IsAdded (F.files shelf.old) scene.now file world.old world.new) }
-    ensures err { IfErr result (λ why. AddsNothing (F.files shelf.old) scene.now number file world.old (F.faults shelf.old) (F.faults shelf.new) why) }
-    ensures later { F.faults shelf.old ≤ F.faults shelf.new }
-    ensures unchanged { F.files shelf.new ≡ F.files shelf.old }
+    ensures ok { OnOk result (IsAdded (F.state shelf.old).files scene.now file world.old world.new) }
+    ensures err { IfErr result (λ why.
+        AddsNothing (F.state shelf.old).files scene.now number file world.old (F.state shelf.old).faults (F.state shelf.new).faults why) }
+    ensures later { (F.state shelf.old).faults ≤ (F.state shelf.new).faults }
+    ensures unchanged { (F.state shelf.new).files ≡ (F.state shelf.old).files }
 {
     match shelf.read(alloc, name_of(scene, file)) {
         Ok(found) => match add_found(alloc, scene, file, &found, world) {
@@ -49,11 +51,12 @@ pub fn read_world<F: Shelf>(
     scene: &Scene,
     shelf: &mut F,
 ) -> Result<World, WorldFault>
-    ensures ok { IfOk result (λ world. IsWorldOf (F.files shelf.old) scene.now world) }
-    ensures err { IfErr result (λ why. HasCause (F.files shelf.old) scene.now (F.faults shelf.old) (F.faults shelf.new) why) }
+    ensures ok { IfOk result (λ world. IsWorldOf (F.state shelf.old).files scene.now world) }
+    ensures err { IfErr result (λ why.
+        HasCause (F.state shelf.old).files scene.now (F.state shelf.old).faults (F.state shelf.new).faults why) }
     ensures of_a_file { IfErr result (λ why. IsOfAFile why) }
-    ensures later { F.faults shelf.old ≤ F.faults shelf.new }
-    ensures unchanged { F.files shelf.new ≡ F.files shelf.old }
+    ensures later { (F.state shelf.old).faults ≤ (F.state shelf.new).faults }
+    ensures unchanged { (F.state shelf.new).files ≡ (F.state shelf.old).files }
 {
     let mut world = World::new(alloc);
     for (n, file) in scene.files().iter().enumerate() {

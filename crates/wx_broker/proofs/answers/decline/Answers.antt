@@ -8,7 +8,7 @@ use Rattle.wx_broker.proofs.RequestsLater.{answered_on}
 use Rattle.wx_broker.proofs.answers.decline.Goals as goal
 
 pub returns : goal.returns
-returns c world =
+returns c =
     let live : is_live (reverse c.args.entries.now) c.args.c ≡ true = sym c.is_live.ensures ∙ c.if-not-is_live.false in
     let told : c.on_request.result ≡ cond (is_live (reverse c.args.entries.now) c.args.c) (on_standing (standing_at (slice_get c.args.rows.now c.args.r.0) c.args.c) Done) Gone = rw live c.on_request.ensures in
     told ∙ answered_on (reverse c.args.entries.now) c.args.rows.now c.args.r.0 c.args.c Done c.requires

@@ -8,7 +8,7 @@ use Rattle.wx_broker.proofs.PortsLater.{answered_at}
 use Rattle.wx_broker.proofs.answers.post.Goals as goal
 
 pub returns : goal.returns
-returns c world =
+returns c =
     let past = reverse c.args.entries.now in
     let live : is_live (reverse c.args.entries.now) c.args.c ≡ true = sym c.is_live.ensures ∙ c.if-not-is_live.false in
     let told : c.on_channel.result ≡ cond (is_live (reverse c.args.entries.now) c.args.c) (at_end (end_of (slice_get c.args.ports.now c.args.k.0) c.args.c) (not (is_open_port (slice_get c.args.ports.now c.args.k.0))) PortClosed (where_short c.args.text.now Posted)) Gone = rw (live, ← c.where_short.ensures) c.on_channel.ensures in

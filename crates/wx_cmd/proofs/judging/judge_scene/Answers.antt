@@ -1,9 +1,15 @@
 use Rattle.std.proofs.Common.{refl}
-use Rattle.wx_cmd.proofs.JudgeLemmas.{fault_judged, unused_in}
+use Rattle.wx_cmd.proofs.JudgeLemmas.{fault_judged, fault_unused, run_began, unused_in}
 use Rattle.wx_cmd.proofs.judging.judge_scene.Goals as goal
 
 pub returns-in-Err-clause-judged : goal.returns-in-Err-clause-judged
-returns-in-Err-clause-judged g c = fault_judged c.judge_fault.result c.args.scene.now _ _ c.in-Err.fault c.judge_fault.ensures c.in-Err.ensures.err
+returns-in-Err-clause-judged g c = fault_judged c.judge_fault.result c.args.how c.args.scene.now _ _ c.in-Err.fault c.judge_fault.ensures c.in-Err.ensures.err
+
+pub returns-in-Err-clause-no_memory : goal.returns-in-Err-clause-no_memory
+returns-in-Err-clause-no_memory g c = fault_unused c.judge_fault.result c.args.how c.args.scene.now _ _ refl
+
+pub returns-in-Ok-clause-no_memory : goal.returns-in-Ok-clause-no_memory
+returns-in-Ok-clause-no_memory g c = run_began c.judge_run.result c.args.how c.args.scene.now _ _ (c.in-Ok.world, c.in-Ok.ensures.ok)
 
 pub returns-in-Err-clause-unused : goal.returns-in-Err-clause-unused
 returns-in-Err-clause-unused g c = unused_in c.judge_fault.result _ refl

@@ -1,7 +1,7 @@
 use Rattle.std.proofs.Common.{ℕ, List, Option, refl, ap, subst, ◌∙◌}
 use Rattle.wx_context.specs.WebUrls.{is_web_url}
 use Rattle.wx_journal_read.specs.Gives.{Gives}
-use Rattle.wx_journal_read.specs.Reading.{where_so}
+use Rattle.wx_id.specs.Options.{where_so}
 use Rattle.wx_journal_read.proofs.Sorts.{no_text, url_test}
 use Rattle.wx_journal_read.proofs.sort.url_text.Goals as goal
 

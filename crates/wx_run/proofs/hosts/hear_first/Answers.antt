@@ -13,21 +13,21 @@ pub returns-in_default-clause-heard : goal.returns-in_default-clause-heard
 returns-in_default-clause-heard g c =
     let slots = slots_of g.P.Starter.state c.args.slots.now.items in
     let none : first_unended_slot 0 slots ≡ None = search rules in
-    (refl, all_ended c.requires.stand.0 c.args.broker.now.world _ slots c.requires.stand.1 (size_of g.P.Starter.state c.args.slots.now.items ∙ c.requires.all) none, refl)
+    (refl, all_ended c.requires.stand.0 c.args.desk.now.broker.world _ slots c.requires.stand.1 (size_of g.P.Starter.state c.args.slots.now.items ∙ c.requires.all) none, refl)
 
 pub index_mut-slot-requires : goal.index_mut-slot-requires
 index_mut-slot-requires g c =
     let slots = slots_of g.P.Starter.state c.args.slots.now.items in
     let found : first_unended_slot 0 slots ≡ Some c.in-Some.i = search rules in
-    let below = (is_first_unended c.requires.stand.0 c.args.broker.now.world _ slots c.in-Some.i c.requires.stand.1 found).is_host in
+    let below = (is_first_unended c.requires.stand.0 c.args.desk.now.broker.world _ slots c.in-Some.i c.requires.stand.1 found).is_host in
     omega (arith, c.args.slots.now.ok.0, c.requires.all, below)
 
 pub hear-requires-clause-host : goal.hear-requires-clause-host
 hear-requires-clause-host g c κs within =
     let state = g.P.Starter.state in
     let i = c.in-Some.i in
-    let world = c.args.broker.now.world in
-    let a = reverse c.args.broker.now.entries in
+    let world = c.args.desk.now.broker.world in
+    let a = reverse c.args.desk.now.broker.entries in
     let slots = slots_of state c.args.slots.now.items in
     let found : first_unended_slot 0 slots ≡ Some c.in-Some.i = search rules in
     let first = first_view state c.requires.stand.0 world i c.args.slots.now.items a c.index_mut-slot.result.now c.requires.stand.1 c.requires.all c.requires.unspent c.requires.started found c.index_mut-slot.ensures.value in
@@ -37,8 +37,8 @@ pub hear-requires-clause-stands : goal.hear-requires-clause-stands
 hear-requires-clause-stands g c κs within =
     let state = g.P.Starter.state in
     let i = c.in-Some.i in
-    let world = c.args.broker.now.world in
-    let a = reverse c.args.broker.now.entries in
+    let world = c.args.desk.now.broker.world in
+    let a = reverse c.args.desk.now.broker.entries in
     let slots = slots_of state c.args.slots.now.items in
     let found : first_unended_slot 0 slots ≡ Some c.in-Some.i = search rules in
     let first = first_view state c.requires.stand.0 world i c.args.slots.now.items a c.index_mut-slot.result.now c.requires.stand.1 c.requires.all c.requires.unspent c.requires.started found c.index_mut-slot.ensures.value in
@@ -48,8 +48,8 @@ pub hear-requires-clause-unspent : goal.hear-requires-clause-unspent
 hear-requires-clause-unspent g c κs within =
     let state = g.P.Starter.state in
     let i = c.in-Some.i in
-    let world = c.args.broker.now.world in
-    let a = reverse c.args.broker.now.entries in
+    let world = c.args.desk.now.broker.world in
+    let a = reverse c.args.desk.now.broker.entries in
     let slots = slots_of state c.args.slots.now.items in
     let found : first_unended_slot 0 slots ≡ Some c.in-Some.i = search rules in
     let first = first_view state c.requires.stand.0 world i c.args.slots.now.items a c.index_mut-slot.result.now c.requires.stand.1 c.requires.all c.requires.unspent c.requires.started found c.index_mut-slot.ensures.value in
@@ -59,8 +59,8 @@ pub hear-requires-clause-unended : goal.hear-requires-clause-unended
 hear-requires-clause-unended g c κs within =
     let state = g.P.Starter.state in
     let i = c.in-Some.i in
-    let world = c.args.broker.now.world in
-    let a = reverse c.args.broker.now.entries in
+    let world = c.args.desk.now.broker.world in
+    let a = reverse c.args.desk.now.broker.entries in
     let slots = slots_of state c.args.slots.now.items in
     let found : first_unended_slot 0 slots ≡ Some c.in-Some.i = search rules in
     let first = first_view state c.requires.stand.0 world i c.args.slots.now.items a c.index_mut-slot.result.now c.requires.stand.1 c.requires.all c.requires.unspent c.requires.started found c.index_mut-slot.ensures.value in
@@ -70,8 +70,8 @@ pub hear-requires-clause-started : goal.hear-requires-clause-started
 hear-requires-clause-started g c κs within =
     let state = g.P.Starter.state in
     let i = c.in-Some.i in
-    let world = c.args.broker.now.world in
-    let a = reverse c.args.broker.now.entries in
+    let world = c.args.desk.now.broker.world in
+    let a = reverse c.args.desk.now.broker.entries in
     let slots = slots_of state c.args.slots.now.items in
     let found : first_unended_slot 0 slots ≡ Some c.in-Some.i = search rules in
     let first = first_view state c.requires.stand.0 world i c.args.slots.now.items a c.index_mut-slot.result.now c.requires.stand.1 c.requires.all c.requires.unspent c.requires.started found c.index_mut-slot.ensures.value in
@@ -81,8 +81,8 @@ pub hear-requires-clause-none_to_take : goal.hear-requires-clause-none_to_take
 hear-requires-clause-none_to_take g c κs within =
     let state = g.P.Starter.state in
     let i = c.in-Some.i in
-    let world = c.args.broker.now.world in
-    let a = reverse c.args.broker.now.entries in
+    let world = c.args.desk.now.broker.world in
+    let a = reverse c.args.desk.now.broker.entries in
     let slots = slots_of state c.args.slots.now.items in
     let found : first_unended_slot 0 slots ≡ Some c.in-Some.i = search rules in
     let first = first_view state c.requires.stand.0 world i c.args.slots.now.items a c.index_mut-slot.result.now c.requires.stand.1 c.requires.all c.requires.unspent c.requires.started found c.index_mut-slot.ensures.value in
@@ -92,14 +92,14 @@ pub returns-then-is_spent-clause-stand : goal.returns-then-is_spent-clause-stand
 returns-then-is_spent-clause-stand g c =
     let state = g.P.Starter.state in
     let i = c.in-Some.i in
-    let world = c.args.broker.now.world in
-    let a = reverse c.args.broker.now.entries in
+    let world = c.args.desk.now.broker.world in
+    let a = reverse c.args.desk.now.broker.entries in
     let slots = slots_of state c.args.slots.now.items in
     let found : first_unended_slot 0 slots ≡ Some c.in-Some.i = search rules in
     let first = first_view state c.requires.stand.0 world i c.args.slots.now.items a c.index_mut-slot.result.now c.requires.stand.1 c.requires.all c.requires.unspent c.requires.started found c.index_mut-slot.ensures.value in
     let p = slot_of state c.index_mut-slot.result.now in
     let q = slot_of state c.hear.new.self in
-    let b = reverse c.hear.new.broker.entries in
+    let b = reverse c.hear.new.desk.broker.entries in
     let heard : IsHeardTurn world i slots a b p q = record { at = first.slot.at; first = first.first; turn = c.in_ok-hear.ensures.turn; stands = c.in_ok-hear.ensures.stands; started = c.in_ok-hear.ensures.started; less = c.in_ok-hear.ensures.less } in
     let set = set_of state c.args.slots.now.items i c.hear.new.self in
     λ writing so. subst (λ s. HostsStand writing world b s) set (stand_behind writing world i slots a b p q c.requires.unspent (heard_turn world i slots a b p q heard) so)
@@ -108,14 +108,14 @@ pub returns-then-is_spent-clause-heard : goal.returns-then-is_spent-clause-heard
 returns-then-is_spent-clause-heard g c =
     let state = g.P.Starter.state in
     let i = c.in-Some.i in
-    let world = c.args.broker.now.world in
-    let a = reverse c.args.broker.now.entries in
+    let world = c.args.desk.now.broker.world in
+    let a = reverse c.args.desk.now.broker.entries in
     let slots = slots_of state c.args.slots.now.items in
     let found : first_unended_slot 0 slots ≡ Some c.in-Some.i = search rules in
     let first = first_view state c.requires.stand.0 world i c.args.slots.now.items a c.index_mut-slot.result.now c.requires.stand.1 c.requires.all c.requires.unspent c.requires.started found c.index_mut-slot.ensures.value in
     let p = slot_of state c.index_mut-slot.result.now in
     let q = slot_of state c.hear.new.self in
-    let b = reverse c.hear.new.broker.entries in
+    let b = reverse c.hear.new.desk.broker.entries in
     let heard : IsHeardTurn world i slots a b p q = record { at = first.slot.at; first = first.first; turn = c.in_ok-hear.ensures.turn; stands = c.in_ok-hear.ensures.stands; started = c.in_ok-hear.ensures.started; less = c.in_ok-hear.ensures.less } in
     let set = set_of state c.args.slots.now.items i c.hear.new.self in
     subst (λ s. FirstHeard a b slots s (Spent (Host (host_numbered i)))) set
@@ -125,14 +125,14 @@ pub returns-else-is_spent-clause-stand : goal.returns-else-is_spent-clause-stand
 returns-else-is_spent-clause-stand g c =
     let state = g.P.Starter.state in
     let i = c.in-Some.i in
-    let world = c.args.broker.now.world in
-    let a = reverse c.args.broker.now.entries in
+    let world = c.args.desk.now.broker.world in
+    let a = reverse c.args.desk.now.broker.entries in
     let slots = slots_of state c.args.slots.now.items in
     let found : first_unended_slot 0 slots ≡ Some c.in-Some.i = search rules in
     let first = first_view state c.requires.stand.0 world i c.args.slots.now.items a c.index_mut-slot.result.now c.requires.stand.1 c.requires.all c.requires.unspent c.requires.started found c.index_mut-slot.ensures.value in
     let p = slot_of state c.index_mut-slot.result.now in
     let q = slot_of state c.hear.new.self in
-    let b = reverse c.hear.new.broker.entries in
+    let b = reverse c.hear.new.desk.broker.entries in
     let heard : IsHeardTurn world i slots a b p q = record { at = first.slot.at; first = first.first; turn = c.in_ok-hear.ensures.turn; stands = c.in_ok-hear.ensures.stands; started = c.in_ok-hear.ensures.started; less = c.in_ok-hear.ensures.less } in
     let set = set_of state c.args.slots.now.items i c.hear.new.self in
     λ writing so. subst (λ s. HostsStand writing world b s) set (stand_behind writing world i slots a b p q c.requires.unspent (heard_turn world i slots a b p q heard) so)
@@ -141,14 +141,14 @@ pub returns-else-is_spent-clause-heard : goal.returns-else-is_spent-clause-heard
 returns-else-is_spent-clause-heard g c =
     let state = g.P.Starter.state in
     let i = c.in-Some.i in
-    let world = c.args.broker.now.world in
-    let a = reverse c.args.broker.now.entries in
+    let world = c.args.desk.now.broker.world in
+    let a = reverse c.args.desk.now.broker.entries in
     let slots = slots_of state c.args.slots.now.items in
     let found : first_unended_slot 0 slots ≡ Some c.in-Some.i = search rules in
     let first = first_view state c.requires.stand.0 world i c.args.slots.now.items a c.index_mut-slot.result.now c.requires.stand.1 c.requires.all c.requires.unspent c.requires.started found c.index_mut-slot.ensures.value in
     let p = slot_of state c.index_mut-slot.result.now in
     let q = slot_of state c.hear.new.self in
-    let b = reverse c.hear.new.broker.entries in
+    let b = reverse c.hear.new.desk.broker.entries in
     let heard : IsHeardTurn world i slots a b p q = record { at = first.slot.at; first = first.first; turn = c.in_ok-hear.ensures.turn; stands = c.in_ok-hear.ensures.stands; started = c.in_ok-hear.ensures.started; less = c.in_ok-hear.ensures.less } in
     let set = set_of state c.args.slots.now.items i c.hear.new.self in
     subst (λ s. FirstHeard a b slots s Moved) set (heard_moved world i slots a b p q c.requires.unspent c.requires.started heard (sym {A = Bool} c.if-is_spent.ensures))

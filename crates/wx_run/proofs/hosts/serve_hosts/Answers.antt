@@ -19,17 +19,17 @@ loop-i-init g c = record {
   same_size = refl;
   same_world = refl;
   legal = c.requires.legal;
-  so_far = serving_begins c.args.broker.now.world (slots_of g.P.Starter.state c.args.slots.now.items) _ c.requires.unspent;
+  so_far = serving_begins c.args.desk.now.broker.world (slots_of g.P.Starter.state c.args.slots.now.items) _ c.requires.unspent;
 }
 
 pub serve-requires-clause-stands : goal.serve-requires-clause-stands
 serve-requires-clause-stands g c κs within =
     let state = g.P.Starter.state in
     let i = c.loop-i.i in
-    let world = c.args.broker.now.world in
+    let world = c.args.desk.now.broker.world in
     let so = c.loop-i.invariant.so_far in
     let p = slot_of state c.index_mut-slot.result.now in
-    let a = reverse c.loop-i.broker.entries in
+    let a = reverse c.loop-i.desk.broker.entries in
     let below : i < length c.loop-i.slots.items = omega (arith, c.loop-i.slots.ok.0, c.loop-i.invariant.same_length, c.loop-i-test.true) in
     let slot = view_at state c.requires.stand.0 world i c.loop-i.slots.items a c.index_mut-slot.result.now (so.stand c.requires.stand.0 c.requires.stand.1) so.unspent below c.index_mut-slot.ensures.value in
     subst (λ w. Stands p.starter.writing w a (host_numbered i) p) (sym c.loop-i.invariant.same_world) slot.stands
@@ -38,10 +38,10 @@ pub serve-requires-clause-unspent : goal.serve-requires-clause-unspent
 serve-requires-clause-unspent g c κs within =
     let state = g.P.Starter.state in
     let i = c.loop-i.i in
-    let world = c.args.broker.now.world in
+    let world = c.args.desk.now.broker.world in
     let so = c.loop-i.invariant.so_far in
     let p = slot_of state c.index_mut-slot.result.now in
-    let a = reverse c.loop-i.broker.entries in
+    let a = reverse c.loop-i.desk.broker.entries in
     let below : i < length c.loop-i.slots.items = omega (arith, c.loop-i.slots.ok.0, c.loop-i.invariant.same_length, c.loop-i-test.true) in
     let slot = view_at state c.requires.stand.0 world i c.loop-i.slots.items a c.index_mut-slot.result.now (so.stand c.requires.stand.0 c.requires.stand.1) so.unspent below c.index_mut-slot.ensures.value in
     slot.unspent
@@ -50,13 +50,13 @@ pub returns-then-is_spent-clause-stand : goal.returns-then-is_spent-clause-stand
 returns-then-is_spent-clause-stand g c =
     let state = g.P.Starter.state in
     let i = c.loop-i.i in
-    let world = c.args.broker.now.world in
+    let world = c.args.desk.now.broker.world in
     let so = c.loop-i.invariant.so_far in
     let p = slot_of state c.index_mut-slot.result.now in
-    let a = reverse c.loop-i.broker.entries in
+    let a = reverse c.loop-i.desk.broker.entries in
     let below : i < length c.loop-i.slots.items = omega (arith, c.loop-i.slots.ok.0, c.loop-i.invariant.same_length, c.loop-i-test.true) in
     let slot = view_at state c.requires.stand.0 world i c.loop-i.slots.items a c.index_mut-slot.result.now (so.stand c.requires.stand.0 c.requires.stand.1) so.unspent below c.index_mut-slot.ensures.value in
-    let b = reverse c.serve.new.broker.entries in
+    let b = reverse c.serve.new.desk.broker.entries in
     let q = slot_of state c.serve.new.self in
     let slots = slots_of state c.loop-i.slots.items in
     let next : IsNextTurn world i slots a b p q c.in_ok-served.served = record {
@@ -73,13 +73,13 @@ pub returns-then-is_spent-clause-served : goal.returns-then-is_spent-clause-serv
 returns-then-is_spent-clause-served g c =
     let state = g.P.Starter.state in
     let i = c.loop-i.i in
-    let world = c.args.broker.now.world in
+    let world = c.args.desk.now.broker.world in
     let so = c.loop-i.invariant.so_far in
     let p = slot_of state c.index_mut-slot.result.now in
-    let a = reverse c.loop-i.broker.entries in
+    let a = reverse c.loop-i.desk.broker.entries in
     let below : i < length c.loop-i.slots.items = omega (arith, c.loop-i.slots.ok.0, c.loop-i.invariant.same_length, c.loop-i-test.true) in
     let slot = view_at state c.requires.stand.0 world i c.loop-i.slots.items a c.index_mut-slot.result.now (so.stand c.requires.stand.0 c.requires.stand.1) so.unspent below c.index_mut-slot.ensures.value in
-    let b = reverse c.serve.new.broker.entries in
+    let b = reverse c.serve.new.desk.broker.entries in
     let q = slot_of state c.serve.new.self in
     let slots = slots_of state c.loop-i.slots.items in
     let next : IsNextTurn world i slots a b p q c.in_ok-served.served = record {
@@ -90,7 +90,7 @@ returns-then-is_spent-clause-served g c =
       came_to = c.in_ok-served.ensures.came;
     } in
     let old = slots_of state c.args.slots.now.items in
-    let past = reverse c.args.broker.now.entries in
+    let past = reverse c.args.desk.now.broker.entries in
     λ known first. subst (λ s. HostsServed known past b old s (Spent (Host (host_numbered i)))) (set_of state c.loop-i.slots.items i c.serve.new.self)
     (turn_spends c.requires.stand.0 world i old slots past a b p q c.loop-i.moved c.in_ok-served.served c.requires.stand.1 (size_of state c.args.slots.now.items ∙ c.requires.all) so next (sym {A = Bool} c.if-is_spent.ensures) known first)
 
@@ -98,13 +98,13 @@ pub loop-i-preserved : goal.loop-i-preserved
 loop-i-preserved g c =
     let state = g.P.Starter.state in
     let i = c.loop-i.i in
-    let world = c.args.broker.now.world in
+    let world = c.args.desk.now.broker.world in
     let so = c.loop-i.invariant.so_far in
     let p = slot_of state c.index_mut-slot.result.now in
-    let a = reverse c.loop-i.broker.entries in
+    let a = reverse c.loop-i.desk.broker.entries in
     let below : i < length c.loop-i.slots.items = omega (arith, c.loop-i.slots.ok.0, c.loop-i.invariant.same_length, c.loop-i-test.true) in
     let slot = view_at state c.requires.stand.0 world i c.loop-i.slots.items a c.index_mut-slot.result.now (so.stand c.requires.stand.0 c.requires.stand.1) so.unspent below c.index_mut-slot.ensures.value in
-    let b = reverse c.serve.new.broker.entries in
+    let b = reverse c.serve.new.desk.broker.entries in
     let q = slot_of state c.serve.new.self in
     let slots = slots_of state c.loop-i.slots.items in
     let next : IsNextTurn world i slots a b p q c.in_ok-served.served = record {
@@ -115,12 +115,12 @@ loop-i-preserved g c =
       came_to = c.in_ok-served.ensures.came;
     } in
     let old = slots_of state c.args.slots.now.items in
-    let past = reverse c.args.broker.now.entries in
+    let past = reverse c.args.desk.now.broker.entries in
     record {
       same_length = c.loop-i.invariant.same_length;
       same_size = length-set c.loop-i.slots.items i c.serve.new.self ∙ c.loop-i.invariant.same_size;
       same_world = c.in_ok-served.ensures.same_world ∙ c.loop-i.invariant.same_world;
-      legal = subst (λ w. IsLegal w c.serve.new.broker.entries) c.loop-i.invariant.same_world c.in_ok-served.ensures.legal;
+      legal = subst (λ w. IsLegal w c.serve.new.desk.broker.entries) c.loop-i.invariant.same_world c.in_ok-served.ensures.legal;
       so_far = subst (λ s. ServedSoFar world (i + 1) old s past b (c.loop-i.moved || c.has_moved.result)) (set_of state c.loop-i.slots.items i c.serve.new.self)
           (turn_served world i old slots past a b p q c.loop-i.moved c.has_moved.result c.in_ok-served.served so next c.has_moved.ensures (sym {A = Bool} c.if-is_spent.ensures));
     }
@@ -128,23 +128,23 @@ loop-i-preserved g c =
 pub returns-then-moved-clause-served : goal.returns-then-moved-clause-served
 returns-then-moved-clause-served g c =
     let state = g.P.Starter.state in
-    let world = c.args.broker.now.world in
+    let world = c.args.desk.now.broker.world in
     let so = c.loop-i.invariant.so_far in
     let old = slots_of state c.args.slots.now.items in
     let slots = slots_of state c.loop-i.slots.items in
-    let past = reverse c.args.broker.now.entries in
-    let b = reverse c.loop-i.broker.entries in
+    let past = reverse c.args.desk.now.broker.entries in
+    let b = reverse c.loop-i.desk.broker.entries in
     let all : c.loop-i.i ≡ length (hosts past) = omega (arith, c.loop-i.slots.ok.0, c.loop-i.invariant.same_length, c.loop-i-test.false, c.loop-i.auto.i-end, c.loop-i.invariant.same_size, c.requires.all) in
     all_moved world c.loop-i.i old slots past b all (size_of state c.args.slots.now.items ∙ c.requires.all) (subst (λ m. ServedSoFar world c.loop-i.i old slots past b m) c.if-moved.true so)
 
 pub returns-else-moved-clause-served : goal.returns-else-moved-clause-served
 returns-else-moved-clause-served g c =
     let state = g.P.Starter.state in
-    let world = c.args.broker.now.world in
+    let world = c.args.desk.now.broker.world in
     let so = c.loop-i.invariant.so_far in
     let old = slots_of state c.args.slots.now.items in
     let slots = slots_of state c.loop-i.slots.items in
-    let past = reverse c.args.broker.now.entries in
-    let b = reverse c.loop-i.broker.entries in
+    let past = reverse c.args.desk.now.broker.entries in
+    let b = reverse c.loop-i.desk.broker.entries in
     let all : c.loop-i.i ≡ length (hosts past) = omega (arith, c.loop-i.slots.ok.0, c.loop-i.invariant.same_length, c.loop-i-test.false, c.loop-i.auto.i-end, c.loop-i.invariant.same_size, c.requires.all) in
     λ known first. all_rested world c.loop-i.i old slots past b all (size_of state c.args.slots.now.items ∙ c.requires.all) (subst (λ m. ServedSoFar world c.loop-i.i old slots past b m) c.if-moved.false so) known

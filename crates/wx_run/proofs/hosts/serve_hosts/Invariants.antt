@@ -15,4 +15,4 @@ pub record Invariant {P : Type 0} (state : P â†’ StarterState) (i count last : â
   pub so_far : ServedSoFar old.world i (slots_of state before) (slots_of state now) (reverse old.entries) (reverse new.entries) moved
 
 abbrev pub invariant-loop-i : goal.invariant-loop-i
-invariant-loop-i g l = Invariant g.P.Starter.state l.i (vec_len l.slots) l.i-end l.fn.slots.items l.slots.items l.fn.broker l.broker l.moved
+invariant-loop-i g l = Invariant g.P.Starter.state l.i (vec_len l.slots) l.i-end l.fn.slots.items l.slots.items l.fn.desk.broker l.desk.broker l.moved

@@ -8,8 +8,9 @@ use Rattle.wx_run.specs.Opened.{OpenedSoFar}
 use Rattle.wx_run.specs.Rounds.{IsSpent}
 use Rattle.wx_run.specs.Hosts.{HaveRecords}
 use Rattle.wx_run.specs.Cursors.{scripts_in}
-use Rattle.wx_run.specs.Run.{IsRunOf}
+use Rattle.wx_run.specs.Run.{IsRunOf, IsInRounds}
 use Rattle.wx_run.specs.Running.{AreReady, KeepsPlaces}
+use Rattle.wx_run.proofs.AddLemmas.{none_below}
 use Rattle.wx_run.proofs.RunLemmas.{keeps_on, keeps_writing, places_added, hosts_now, have_records}
 use Rattle.wx_run.proofs.OpeningLemmas.{opened_ready, opened_rounds, run_of}
 use Rattle.wx_run.proofs.run.run_scene.Goals as goal
@@ -31,8 +32,14 @@ returns-clause-run g c =
     let same : c.run_rounds.new.desk.broker.world ≡ c.args.world = c.in_ok-end.ensures.same_world ∙ c.in_ok-cursors.ensures.same_world ∙ c.new.ensures.world in
     let legal : IsLegal c.args.world entries = subst (λ world. IsLegal world entries) same c.into_journal.ensures.legal in
     let within = c.in_ok-add_slots.ensures.stand.within_limit in
-    let rounds = opened_rounds c.new.result.world c.args.scene.now c.in_ok-cursors.cursors.items (reverse c.open.new.desk.broker.entries) (reverse entries) c.in_ok-end.end c.in_ok-cursors.ensures.opened c.in_ok-end.ensures.rounds in
+    let rounds = opened_rounds c.new.result.world c.args.scene.now c.in_ok-cursors.cursors.items (reverse c.open.new.desk.broker.entries) (reverse entries) c.in_ok-end.end c.in_ok-cursors.ensures.opened (c.in_ok-end.ensures.rounds 0 (none_below _)) in
     subst (λ entries. IsRunOf c.args.world c.args.scene.now entries c.in_ok-end.end) (sym c.into_journal.ensures.entries) (run_of c.args.world c.args.scene.now entries c.in_ok-end.end legal within rounds)
+
+pub returns-clause-rounds : goal.returns-clause-rounds
+returns-clause-rounds g c how =
+    let entries = c.run_rounds.new.desk.broker.entries in
+    let rounds = opened_rounds c.new.result.world c.args.scene.now c.in_ok-cursors.cursors.items (reverse c.open.new.desk.broker.entries) (reverse entries) c.in_ok-end.end c.in_ok-cursors.ensures.opened (c.in_ok-end.ensures.rounds 0 (none_below _)) in
+    subst (IsInRounds c.args.scene.now) (sym c.into_journal.ensures.entries) (record { count = rounds.count; in_rounds = rounds.rounds })
 
 pub returns-clause-records : goal.returns-clause-records
 returns-clause-records g c =
@@ -47,7 +54,7 @@ returns-clause-records g c =
     let scripts = scripts_of c.args.scene.now in
     let added = c.in_ok-add_slots.ensures in
     let same : c.run_rounds.new.desk.broker.world ≡ c.args.world = c.in_ok-end.ensures.same_world ∙ c.in_ok-cursors.ensures.same_world ∙ c.new.ensures.world in
-    let rounds = opened_rounds c.new.result.world c.args.scene.now c.in_ok-cursors.cursors.items (reverse c.open.new.desk.broker.entries) past c.in_ok-end.end c.in_ok-cursors.ensures.opened c.in_ok-end.ensures.rounds in
+    let rounds = opened_rounds c.new.result.world c.args.scene.now c.in_ok-cursors.cursors.items (reverse c.open.new.desk.broker.entries) past c.in_ok-end.end c.in_ok-cursors.ensures.opened (c.in_ok-end.ensures.rounds 0 (none_below _)) in
     let first : KeepsPlaces [] ran old between = subst (λ slots. KeepsPlaces (slots_of state slots) ran old between) c.new-slots.ensures.items c.in_ok-end.ensures.kept in
     let second = places_added state _ _ past c.run_rounds.new.slots.items c.add_slots.new.slots.items between mid c.in_ok-end.ensures.hosts_stand added.all added.kept in
     let stand = hosts_now old.writing between.writing c.args.world c.run_rounds.new.desk.broker.world past slots (keeps_writing _ _ _ _ first) same added.stand in

@@ -13,4 +13,7 @@ pub record Invariant (told now : Option Files) (before faults : ℕ) (scene : Sc
   pub so_far : ComesOf told scene n (Ok world)
 
 abbrev pub invariant-loop-n : goal.invariant-loop-n
-invariant-loop-n g l = Invariant (g.F.Shelf.files l.fn.shelf) (g.F.Shelf.files l.shelf) (g.F.Shelf.faults l.fn.shelf) (g.F.Shelf.faults l.shelf) l.scene l.n l.world
+invariant-loop-n g l =
+    let old = g.F.Shelf.state l.fn.shelf in
+    let now = g.F.Shelf.state l.shelf in
+    Invariant old.files now.files old.faults now.faults l.scene l.n l.world

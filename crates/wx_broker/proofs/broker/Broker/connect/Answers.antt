@@ -17,6 +17,6 @@ pub invariant_of-self-2 : goal.invariant_of-self-2
 invariant_of-self-2 c =
     let i = c.self.inside in
     kept_connected i.world i.journal.entries c.push.new.journal.entries c.args.c c.args.target c.args.name c.connect-answer.result i.ports c.open-opened.new.ports i.requests c.self.invariant
-    (record { may = may_call (reverse i.journal.entries) c.args.c (rw (← c.self.view_is) at c.requires); answered = rw (c.entries.ensures, c.reserve.ensures.same) at (c.connect-answer.ensures c.args.name) })
+    (record { may = may_call (reverse i.journal.entries) c.args.c (rw (← c.self.view_is) at c.requires); answered = rw (c.entries.ensures, c.reserve.ensures.same) at c.connect-answer.ensures })
     (rw c.reserve.ensures.same at c.push.ensures.entries)
     (rw (c.entries-2.ensures, c.reserve.ensures.same) at (ok_holds c.open-opened.result c.open-opened.ensures.ok (sym c.is_err-2.ensures.value ∙ c.if-is_err-2.false)))

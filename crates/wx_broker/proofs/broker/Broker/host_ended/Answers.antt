@@ -14,6 +14,6 @@ pub invariant_of-self-2 : goal.invariant_of-self-2
 invariant_of-self-2 c =
     let i = c.self.inside in
     kept_ended i.world i.journal.entries c.push.new.journal.entries c.args.h c.args.reason c.host_ended-answer.result i.ports c.close_work.new.ports i.requests c.settle_work.new.requests c.self.invariant
-    (record { may = may_end (reverse i.journal.entries) c.args.h c.args.reason (rw (← c.self.view_is) at c.requires); answered = rw (c.entries-2.ensures, c.reserve.ensures.same) at (c.host_ended-answer.ensures c.args.reason) })
+    (record { may = may_end (reverse i.journal.entries) c.args.h c.args.reason (rw (← c.self.view_is) at c.requires); answered = rw (c.entries-2.ensures, c.reserve.ensures.same) at c.host_ended-answer.ensures })
     (rw c.reserve.ensures.same at c.push.ensures.entries)
     (rw (c.work_of-work.ensures, c.entries.ensures, c.reserve.ensures.same) at c.close_work.ensures) (rw (c.work_of-work.ensures, c.entries.ensures, c.reserve.ensures.same) at c.settle_work.ensures)

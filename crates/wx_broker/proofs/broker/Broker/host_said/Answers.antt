@@ -14,5 +14,5 @@ pub invariant_of-self-2 : goal.invariant_of-self-2
 invariant_of-self-2 c =
     let i = c.self.inside in
     kept_said i.world i.journal.entries c.push.new.journal.entries c.args.h c.args.text c.host_said-answer.result i.ports i.requests c.settle_work.new.requests c.self.invariant
-    (record { may = may_say (reverse i.journal.entries) c.args.h c.args.text (rw (← c.self.view_is) at c.requires.host) c.requires.short; answered = rw (c.entries-2.ensures, c.reserve.ensures.same) at (c.host_said-answer.ensures c.args.text) })
+    (record { may = may_say (reverse i.journal.entries) c.args.h c.args.text (rw (← c.self.view_is) at c.requires.host) c.requires.short; answered = rw (c.entries-2.ensures, c.reserve.ensures.same) at c.host_said-answer.ensures })
     (rw c.reserve.ensures.same at c.push.ensures.entries) (rw (c.work_of-work.ensures, c.entries.ensures, c.reserve.ensures.same) at c.settle_work.ensures)

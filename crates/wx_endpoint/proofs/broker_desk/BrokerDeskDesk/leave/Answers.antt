@@ -1,13 +1,16 @@
 use Rattle.std.proofs.Common.{refl}
 use Rattle.wx_machine.specs.declared.entries.Call.TheVariants.{Leave}
-use Rattle.wx_endpoint.proofs.BrokerLemmas.{given_over, made_one, sound_after}
+use Rattle.wx_endpoint.proofs.BrokerLemmas.{came_in, makes, stays_sound, lends_on}
 use Rattle.wx_endpoint.proofs.broker_desk.BrokerDeskDesk.leave.Goals as goal
 
 pub leave-requires : goal.leave-requires
-leave-requires c = given_over c.args.self.now.context c.args.self.now.broker c.requires
+leave-requires c = came_in c.args.self.now c.requires.sound
+
+pub invariant_of-self : goal.invariant_of-self
+invariant_of-self c = record { kept = lends_on c.args.self.now c.leave.new.self Leave c.leave.result c.leave.ensures.ok c.leave.ensures.err }
 
 pub returns-clause-made : goal.returns-clause-made
-returns-clause-made c = made_one c.args.self.now.context c.args.self.now.broker c.leave.new.self Leave c.leave.result c.leave.ensures.ok
+returns-clause-made c = makes c.args.self.now c.leave.new.self Leave c.leave.result c.leave.ensures.ok
 
 pub returns-clause-sound : goal.returns-clause-sound
-returns-clause-sound c = sound_after c.args.self.now.context c.args.self.now.broker c.leave.new.self Leave c.leave.result refl c.requires c.leave.ensures.ok c.leave.ensures.err
+returns-clause-sound c = stays_sound c.args.self.now c.leave.new.self Leave c.leave.result refl c.requires.sound c.leave.ensures.ok c.leave.ensures.err

@@ -1,0 +1,3 @@
+pub mod TextLemmas
+pub mod HistoryLemmas
+pub mod OverLemmas

@@ -1,0 +1,3 @@
+pub mod History
+pub mod Desks
+pub mod BrokerDesks

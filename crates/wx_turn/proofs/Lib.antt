@@ -1,0 +1,4 @@
+pub mod Histories
+pub mod Numbers
+pub mod TurnSteps
+pub mod SeatSteps
