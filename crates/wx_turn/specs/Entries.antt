@@ -1,4 +1,4 @@
--- Entries among marks: what one turn more does to them.
+-- Entries among marks: what one turn more does to them, for values that are a list of entries and a count of turns.
 use Rattle.std.proofs.Common.{◌≡◌, ℕ, ◌+◌, List, [], ◌∷◌, ◌++◌, length, Option, Some, None, refl, sym, ap, ◌∙◌, arith, length-append}
 use Rattle.std.proofs.lemmas.List.{append-nil}
 use Rattle.wx_turn.specs.Works.{entries, StandsFor}
