@@ -169,6 +169,9 @@ slot_kept starter child failed made ended = record { starter = starter; child = 
 pub ended_as : {P : Type 0} (was slot : SlotView P) (b : Bool) → was ≡ slot → was.ended ≡ b → slot.ended ≡ b
 ended_as {P} was slot b same is = ap (λ (v : SlotView P). v.ended) (sym same) ∙ is
 
+pub failed_as : {P : Type 0} (was slot : SlotView P) (b : Bool) → was ≡ slot → was.failed ≡ b → slot.failed ≡ b
+failed_as {P} was slot b same is = ap (λ (v : SlotView P). v.failed) (sym same) ∙ is
+
 -- Putting a child back
 
 -- the slot with its child put back, and more entries made
@@ -338,6 +341,11 @@ tells_of {P} state h world before after was slot new starter same unended none w
     let was_none : was.child ≡ None = ap (λ (v : SlotView P). v.child) same ∙ none in
     let was_unended : was.ended ≡ false = ap (λ (v : SlotView P). v.ended) same ∙ unended in
     started_from (state slot.starter).writing world h before after (slot_of state slot) (slot_of state (failed_view was starter)) (slot_of state new) none was_none unended was_unended (subst W writing_is s)
+
+pub tells_if : {P E : Type 0} (state : P → StarterState) (h : HostNo) (world : WorldLists) (before after : List Entry) (was slot new : SlotView P) (starter : P) (r : Result Unit E) → was ≡ slot → slot.ended ≡ false → slot.child ≡ None → (state starter).writing ≡ (state slot.starter).writing
+    → OnOk r (IsStarted (state starter).writing world h before after (slot_of state (failed_view was starter)) (slot_of state new)) → OnOk r (IsStarted (state slot.starter).writing world h before after (slot_of state slot) (slot_of state new))
+tells_if state h world before after was slot new starter (Ok done) same unended none writing_is s = tells_of state h world before after was slot new starter same unended none writing_is s
+tells_if state h world before after was slot new starter (Err e) same unended none writing_is s = tt
 
 -- What a turn answers
 
