@@ -321,6 +321,14 @@ fails_to_start {P} state h broker was slot starter same s unended none not_faile
     let T : StarterState → Type 0 = λ t. Stands t.writing broker.world past h (record { starter = t; child = was.child; failed = true; made = was.made; ended = was.ended }) in
     subst T (sym left) (subst V (sym same) base)
 
+-- a start that failed leaves what children write
+pub same_children : {P : Type 0} (state : P → StarterState) (world : WorldLists) (past : List Entry) (h : HostNo) (was slot : SlotView P) (starter : P) → was ≡ slot → IsSome (program_of world past h)
+    → ((p : Program) → program_of world past h ≡ Some p → (n : ℕ) × Rose (state was.starter).slot.failed_starts n × (state starter ≡ starting (state was.starter) p.path p.arguments n)) → (state starter).writing ≡ (state slot.starter).writing
+same_children {P} state world past h was slot starter same known starts =
+    let (p, is) = some_of (program_of world past h) known in
+    let (n, rose, left) = starts p is in
+    ap (λ (t : StarterState). t.writing) left ∙ ap (λ (v : SlotView P). (state v.starter).writing) same
+
 -- a host tells that its program could not be started
 pub tells : {P : Type 0} (state : P → StarterState) (h : HostNo) (old new : BrokerState) (was slot : SlotView P) (a : Answer) → was ≡ slot → Stands (state slot.starter).writing old.world (reverse old.entries) h (slot_of state slot) → slot.ended ≡ false → slot.child ≡ None → slot.failed ≡ true
     → MakesOne (host_over h old) (host_over h new) (HostEnded StartFailed) a
