@@ -79,23 +79,25 @@ found_judged words name how content old mid new starter verdict named asked stan
     accepted scene is = record { content = content; found = found; accepted = is }
 
     by : (verdict : Verdict) → ComesTo how content (over (record mid { files = old.files }) new) starter verdict → Judged words (over old new) starter verdict
-    by (read_fault file) (scene, is, place, failed, name_is) = inr (record {
-      scene = scene;
-      accepted = accepted scene is;
-      place = place;
-      failed = record { named = failed.named; world = failed.world; so_far = failed.so_far; failed = (let rose = failed.failed in omega (arith, rose, later)) };
-      name = name_is;
-    })
+    by (read_fault file) (scene, is, comes) =
+        let failed = comes.1 in
+        inr (record {
+          scene = scene;
+          accepted = accepted scene is;
+          place = comes.0;
+          failed = record { named = failed.named; world = failed.world; so_far = failed.so_far; failed = (let rose = failed.failed in omega (arith, rose, later)) };
+          name = comes.2;
+        })
     by (refused fault) comes = record { content = content; found = found; refusal = comes }
-    by (manifest_refused refusal file) (scene, is, first, name_is) = record { scene = scene; accepted = accepted scene is; first = first; name = name_is }
+    by (manifest_refused refusal file) (scene, is, comes) = record { scene = scene; accepted = accepted scene is; first = comes.0; name = comes.1 }
     by no_memory (inl unused) = inl unused
-    by no_memory (inr (scene, is, world, manifests)) = inr (record { scene = scene; accepted = accepted scene is; world = world; manifests = manifests })
-    by (ran end text lines) (scene, is, world, manifests, run) = record {
+    by no_memory (inr (scene, is, has)) = inr (record { scene = scene; accepted = accepted scene is; world = has.0; manifests = has.1 })
+    by (ran end text lines) (scene, is, comes) = record {
       scene = scene;
       accepted = accepted scene is;
-      world = world;
-      manifests = manifests;
-      run = subst (λ (way : How). IsTextOfRun way world scene starter end text lines) (sym asked) run;
+      world = comes.0;
+      manifests = comes.1;
+      run = subst (λ (way : How). IsTextOfRun way comes.0 scene starter end text lines) (sym asked) comes.2;
     }
 
 -- what its scene comes to, the content comes to
@@ -115,3 +117,10 @@ unread_judged words name shelf starter (refused fault) named one failed unused i
 unread_judged words name shelf starter (manifest_refused refusal file) named one failed unused is = absurd is
 unread_judged words name shelf starter no_memory named one failed unused is = inl unused
 unread_judged words name shelf starter (ran end text lines) named one failed unused is = absurd is
+
+-- where memory was refused and the starter is unused
+pub without_scene : (how : How) (content : Content) (shelf : ShelfChange) (starter : StarterChange) → IsUnused starter → ComesTo how content shelf starter no_memory
+without_scene how content shelf starter unused = inl unused
+
+pub without_verdict : (words : List (List ℕ)) (shelf : ShelfChange) (starter : StarterChange) → IsUnused starter → Judged words shelf starter no_memory
+without_verdict words shelf starter unused = inl unused

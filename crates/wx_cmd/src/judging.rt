@@ -48,7 +48,7 @@ fn judge_run<P: Starter>(
 /// What a scene comes to whose manifests make no world.
 fn judge_fault(alloc: Global, scene: &Scene, fault: WorldFault) -> Result<Verdict, NoMemory>
     ensures { IfOk result (λ verdict. (how : How) (shelf : ShelfChange) (starter : StarterChange)
-        → HasCause shelf.files scene.now shelf.faults_before shelf.faults_after fault
+        → HasCause shelf.before.files scene.now shelf.before.faults shelf.after.faults fault
         → SceneComesTo how scene.now shelf starter (verdict_view verdict)) }
 {
     match fault {
@@ -96,6 +96,7 @@ fn refusal(kind: SceneKind) -> SceneFault
 }
 
 /// What the bytes of a scene come to.
+#[tactic(auto, using(crate::proofs::JudgeLemmas::scene_judged, crate::proofs::JudgeLemmas::without_scene))]
 fn judge_bytes<F: Shelf, P: Starter>(
     alloc: Global,
     bytes: &[u8],
@@ -151,6 +152,7 @@ fn read_fault(alloc: Global, file: &str) -> Verdict
 }
 
 /// What the call answers for a run before it writes.
+#[tactic(auto, using(crate::proofs::JudgeLemmas::found_judged, crate::proofs::JudgeLemmas::unread_judged, crate::proofs::JudgeLemmas::without_verdict))]
 pub fn judge<F: Shelf, P: Starter>(
     alloc: Global,
     scene: &str,

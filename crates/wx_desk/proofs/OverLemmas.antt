@@ -71,7 +71,7 @@ pub past_after : (who : Who) (old new : BrokerState) (call : Call) (answer : Ans
 past_after who old new call answer appends = ap reverse appends.grown ∙ reverse-append old.entries (_ ∷ [])
 
 module _ {A : Type 0} (as_who : A → Who) (who : A) (old new : BrokerState) where
-  desk_after : (call : Call) (answer : Answer) → Appends old new (as_who who) call answer
+  pub desk_after : (call : Call) (answer : Answer) → Appends old new (as_who who) call answer
       → desk_over as_who who new ≡ after_own (desk_over as_who who old) call answer
   desk_after call answer appends =
       let e : Entry = record { who = as_who who; call = call; answer = answer } in

@@ -1,5 +1,5 @@
 -- What a call of a broker is at a host's desk over it.
-use Rattle.std.proofs.Common.{◌≡◌, ◌<◌, List, [], ◌∷◌, length, Bool, true, false, Some, None, IfOk, OnErr, IsTrue, refl, sym, subst, ◌∙◌, Bor}
+use Rattle.std.proofs.Common.{◌≡◌, ℕ, ◌<◌, List, [], ◌∷◌, length, Bool, true, false, Some, None, IfOk, OnErr, IsTrue, refl, sym, subst, ◌∙◌, Bor}
 use Rattle.std.specs.Prelude.{Result, Option, reverse, IsSome, IfSome, is_some, option_copied}
 use Rattle.std.proofs.lemmas.Bool.{false≢true}
 use Rattle.wx_id.specs.declared.numbers.HostNo.{HostNo}

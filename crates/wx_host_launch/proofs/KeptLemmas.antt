@@ -25,7 +25,7 @@ same_twice a b c h k = (k.0 ∙ h.0, k.1 ∙ h.1)
 same_none : (old new : HostDeskState) → MakesNone old new → IsSameDesk old new
 same_none old new none = (none.same_who, none.same_world)
 
-same_one : (old new : HostDeskState) (call : Call) (answer : Answer) → MakesOne old new call answer → IsSameDesk old new
+pub same_one : (old new : HostDeskState) (call : Call) (answer : Answer) → MakesOne old new call answer → IsSameDesk old new
 same_one old new call answer one =
     let D : HostDeskState → Type 0 = IsSameDesk old in
     subst D (sym one.made) (one.others.same_who, one.others.same_world)

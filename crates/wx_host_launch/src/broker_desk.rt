@@ -1,4 +1,5 @@
 //! The desk of a native host over a broker that nobody else has.
+ghost use Rattle.std.specs.Prelude.{◌≡◌};
 ghost use Rattle.wx_host_launch.specs.Steps.{lent_by};
 
 use crate::desk::HostDesk;

@@ -7,4 +7,3 @@ pub mod InLemmas
 pub mod OutLemmas
 pub mod StartLemmas
 pub mod ServeLemmas
-pub mod DeskOverLemmas

@@ -169,6 +169,9 @@ slot_kept starter child failed made ended = record { starter = starter; child = 
 pub ended_as : {P : Type 0} (was slot : SlotView P) (b : Bool) → was ≡ slot → was.ended ≡ b → slot.ended ≡ b
 ended_as {P} was slot b same is = ap (λ (v : SlotView P). v.ended) (sym same) ∙ is
 
+pub failed_as : {P : Type 0} (was slot : SlotView P) (b : Bool) → was ≡ slot → was.failed ≡ b → slot.failed ≡ b
+failed_as {P} was slot b same is = ap (λ (v : SlotView P). v.failed) (sym same) ∙ is
+
 -- Putting a child back
 
 -- the slot with its child put back, and more entries made
@@ -318,6 +321,14 @@ fails_to_start {P} state h broker was slot starter same s unended none not_faile
     let T : StarterState → Type 0 = λ t. Stands t.writing broker.world past h (record { starter = t; child = was.child; failed = true; made = was.made; ended = was.ended }) in
     subst T (sym left) (subst V (sym same) base)
 
+-- a start that failed leaves what children write
+pub same_children : {P : Type 0} (state : P → StarterState) (world : WorldLists) (past : List Entry) (h : HostNo) (was slot : SlotView P) (starter : P) → was ≡ slot → IsSome (program_of world past h)
+    → ((p : Program) → program_of world past h ≡ Some p → (n : ℕ) × Rose (state was.starter).slot.failed_starts n × (state starter ≡ starting (state was.starter) p.path p.arguments n)) → (state starter).writing ≡ (state slot.starter).writing
+same_children {P} state world past h was slot starter same known starts =
+    let (p, is) = some_of (program_of world past h) known in
+    let (n, rose, left) = starts p is in
+    ap (λ (t : StarterState). t.writing) left ∙ ap (λ (v : SlotView P). (state v.starter).writing) same
+
 -- a host tells that its program could not be started
 pub tells : {P : Type 0} (state : P → StarterState) (h : HostNo) (old new : BrokerState) (was slot : SlotView P) (a : Answer) → was ≡ slot → Stands (state slot.starter).writing old.world (reverse old.entries) h (slot_of state slot) → slot.ended ≡ false → slot.child ≡ None → slot.failed ≡ true
     → MakesOne (host_over h old) (host_over h new) (HostEnded StartFailed) a
@@ -338,6 +349,11 @@ tells_of {P} state h world before after was slot new starter same unended none w
     let was_none : was.child ≡ None = ap (λ (v : SlotView P). v.child) same ∙ none in
     let was_unended : was.ended ≡ false = ap (λ (v : SlotView P). v.ended) same ∙ unended in
     started_from (state slot.starter).writing world h before after (slot_of state slot) (slot_of state (failed_view was starter)) (slot_of state new) none was_none unended was_unended (subst W writing_is s)
+
+pub tells_if : {P E : Type 0} (state : P → StarterState) (h : HostNo) (world : WorldLists) (before after : List Entry) (was slot new : SlotView P) (starter : P) (r : Result Unit E) → was ≡ slot → slot.ended ≡ false → slot.child ≡ None → (state starter).writing ≡ (state slot.starter).writing
+    → OnOk r (IsStarted (state starter).writing world h before after (slot_of state (failed_view was starter)) (slot_of state new)) → OnOk r (IsStarted (state slot.starter).writing world h before after (slot_of state slot) (slot_of state new))
+tells_if state h world before after was slot new starter (Ok done) same unended none writing_is s = tells_of state h world before after was slot new starter same unended none writing_is s
+tells_if state h world before after was slot new starter (Err e) same unended none writing_is s = tt
 
 -- What a turn answers
 

@@ -43,6 +43,11 @@ abbrev pub is_unsettled_at : Option Request → Bool
 is_unsettled_at None = false
 is_unsettled_at (Some request) = not request.is_settled
 
+-- the receivers that may still reply to the request with a number; none to one that was not made yet
+abbrev pub still_open_at : Option Request → List ContextNo
+still_open_at None = []
+still_open_at (Some request) = request.still_open
+
 -- context c may still reply to the request
 abbrev pub may_reply : Request → ContextNo → Bool
 may_reply request c = not request.is_settled && is_among request.still_open c

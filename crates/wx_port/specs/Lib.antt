@@ -1,1 +1,3 @@
 pub mod Port
+pub mod Numbers
+pub mod Table

@@ -25,7 +25,7 @@ place_in-seen_by s c (e ∷ past) = ap (λ p. behind_entry s c p e) (place_in-se
 pub own_in-seen_by : (c : ContextNo) (past : List Entry) → own_in (seen_by (ByContext c) past) ≡ entries_by c past
 own_in-seen_by c [] = refl
 own_in-seen_by c (e ∷ past) =
-    own_in-cons _ (seen_by (ByContext c) past) ∙ ap (λ n. cond (is_by e.who c) 1 0 + n) (own_in-seen_by c past)
+    own_in-cons (record { own = is_by e.who c; entry = e }) (seen_by (ByContext c) past) ∙ ap (λ n. cond (is_by e.who c) 1 0 + n) (own_in-seen_by c past)
 
 -- what an endpoint's script asks for, where its number is known
 asked_of : (scripts : List (List Command)) (s : List Command) (past : List Entry) (who : Who) (c : ContextNo) (e : Entry)

@@ -100,7 +100,8 @@ waited c d world other a b p q ready rests same_cursor =
     let same : b ≡ a = none_came c d world other a b rests.none_pending.others in
     let here : entries_in (seen_by (ByContext d) b) ≡ a = entries_in-seen_by (ByContext d) b ∙ same in
     let next : next_of p.script c a ≡ waits = sym (next_is world c p a ready) ∙ subst (λ j. next_at j p.place ≡ waits) here rests.waiting in
-    let none : has_pending a c ≡ false = subst (λ j. has_pending j c ≡ false) here rests.none_pending.none_pending in
+    let same_c : d ≡ c = rests.none_pending.others.same_who in
+    let none : has_pending a c ≡ false = subst (λ x. has_pending a x ≡ false) same_c (subst (λ j. has_pending j d ≡ false) here rests.none_pending.none_pending) in
     record { idle = ap (λ n. is_idle a c n) next ∙ ap not none; same_cursor = same_cursor; same = same }
 
 ended : (c d : ContextNo) (world other : WorldLists) (a b : List Entry) (p q : CursorState) → IsReady world c p a

@@ -1,5 +1,4 @@
 pub mod Histories
 pub mod Numbers
-pub mod Entries
 pub mod TurnSteps
 pub mod SeatSteps

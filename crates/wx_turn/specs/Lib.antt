@@ -1,5 +1,6 @@
 pub mod History
 pub mod Works
+pub mod Entries
 pub mod Turns
 pub mod Rule
 pub mod Steps

@@ -1,7 +1,7 @@
 //! A plain list behind the lock, for the tests, and the two works on it.
 ghost use Rattle.std.specs.Prelude.{◌≡◌, ℕ, Option, Some, None, MatchBool};
 ghost use Rattle.wx_turn.specs.Works.{StandsFor};
-ghost use Rattle.wx_turn.proofs.Entries.{last_mark};
+ghost use Rattle.wx_turn.specs.Entries.{last_mark};
 
 use crate::stands::{Stands, Work};
 

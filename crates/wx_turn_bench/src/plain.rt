@@ -1,5 +1,4 @@
 //! The same number of turns by std's lock, to compare with.
-ghost use Rattle.std.specs.Prelude.{◌×◌};
 ghost use Rattle.std.specs.Thread.{IsSync};
 
 use std::sync::{Mutex, Wait};

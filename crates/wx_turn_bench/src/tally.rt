@@ -1,7 +1,7 @@
 //! The value behind the lock: a count of turns, none of which has an entry.
 ghost use Rattle.std.specs.Prelude.{◌≡◌, [], None};
 ghost use Rattle.wx_turn.specs.Works.{StandsFor};
-ghost use Rattle.wx_turn.proofs.Entries.{last_mark};
+ghost use Rattle.wx_turn.specs.Entries.{last_mark};
 
 use wx_turn::{Stands, Work};
 

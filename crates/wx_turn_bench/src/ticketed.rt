@@ -1,5 +1,5 @@
 //! Turns of the ticketed lock, in threads that split their seats and join them.
-ghost use Rattle.std.specs.Prelude.{◌≡◌, ◌×◌};
+ghost use Rattle.std.specs.Prelude.{◌≡◌};
 ghost use Rattle.std.specs.Thread.{IsSync};
 ghost use Rattle.wx_turn.specs.Seats.{lock_of, id};
 

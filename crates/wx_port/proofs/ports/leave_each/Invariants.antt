@@ -1,6 +1,6 @@
-use Rattle.std.proofs.Common.{◌≡◌, ◌++◌, map, take, drop}
-use Rattle.wx_port.specs.Port.{left_by}
+use Rattle.std.proofs.Common.{take}
+use Rattle.wx_port.proofs.LeavingLater.{LeftAt}
 use Rattle.wx_port.proofs.ports.leave_each.Given as goal
 
-abbrev pub invariant-loop-channel : goal.invariant-loop-channel
-invariant-loop-channel l = l.channel-items ≡ map (left_by l.c) (take l.channel-index l.initial.channel-items) ++ drop l.channel-index l.initial.channel-items
+abbrev pub invariant-loop-k : goal.invariant-loop-k
+invariant-loop-k l = LeftAt l.c (take l.k-index l.own) l.initial.table l.table

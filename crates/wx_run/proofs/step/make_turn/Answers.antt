@@ -2,10 +2,10 @@ use Rattle.wx_run.proofs.StepLemmas.{ready_sound, ready_behind, moved, rested}
 use Rattle.wx_run.proofs.step.make_turn.Goals as goal
 
 pub turn-requires-clause-sound : goal.turn-requires-clause-sound
-turn-requires-clause-sound c = ready_sound c.args.desk.now.broker.world c.args.desk.now.context c.args.cursor.now _ c.requires
+turn-requires-clause-sound c = λ lifetimes. ready_sound c.args.desk.now.broker.world c.args.desk.now.context c.args.cursor.now _ c.requires
 
 pub turn-requires-clause-behind : goal.turn-requires-clause-behind
-turn-requires-clause-behind c = ready_behind c.args.desk.now.broker.world c.args.desk.now.context c.args.cursor.now _ c.requires
+turn-requires-clause-behind c = λ lifetimes. ready_behind c.args.desk.now.broker.world c.args.desk.now.context c.args.cursor.now _ c.requires
 
 pub returns-in-Moved-clause-step : goal.returns-in-Moved-clause-step
 returns-in-Moved-clause-step c =

@@ -1,5 +1,5 @@
 use Rattle.std.proofs.Common.{refl, None}
-use Rattle.wx_turn.proofs.Entries.{nothing_more}
+use Rattle.wx_turn.specs.Entries.{nothing_more}
 use Rattle.wx_turn.proofs.plain.FindWorkPlain.act.Goals as goal
 
 pub returns : goal.returns

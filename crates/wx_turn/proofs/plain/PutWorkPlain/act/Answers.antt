@@ -1,5 +1,5 @@
 use Rattle.std.proofs.Common.{rules, refl, Some, None}
-use Rattle.wx_turn.proofs.Entries.{one_entry_more, nothing_more}
+use Rattle.wx_turn.specs.Entries.{one_entry_more, nothing_more}
 use Rattle.wx_turn.proofs.plain.PutWorkPlain.act.Goals as goal
 
 pub returns-in-Ok : goal.returns-in-Ok
