@@ -16,8 +16,10 @@ use wx_manifest::Extension;
 /// A call.
 #[derive(Clone, Copy)]
 pub enum Step {
-    /// A page of that extension enters, at that path.
-    Enter(&'static [u8], &'static str),
+    /// A page of extension A enters, at that path.
+    Enter(&'static str),
+    /// A page of extension B enters, at that path.
+    EnterOther(&'static str),
     /// A web page enters.
     EnterWeb,
     /// It listens to connections of its own extension.
@@ -207,7 +209,8 @@ fn make_of_host(broker: &mut Broker, alloc: Global, h: u64, step: &Step) -> Opti
 /// Makes the call of the context or host with that number, and gives its answer.
 pub fn make(broker: &mut Broker, alloc: Global, n: u64, step: &Step) -> Option<Answer> {
     match step {
-        Step::Enter(ext, path) => enter(broker, page(alloc, ext, path)?),
+        Step::Enter(path) => enter(broker, page(alloc, A, path)?),
+        Step::EnterOther(path) => enter(broker, page(alloc, B, path)?),
         Step::EnterWeb => enter(broker, web(alloc)?),
         Step::Connect | Step::Send(_) | Step::ConnectNative(_) | Step::SendNative(_, _) => {
             make_start(broker, alloc, n, step)

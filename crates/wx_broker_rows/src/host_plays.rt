@@ -1,11 +1,11 @@
 //! Plays of native hosts: worked examples of the machine, each made by the broker.
 use crate::calls::Step::{
-    ConnectNative, Disconnect, Enter, EnterWeb, HostEnded, HostSaid, HostTake, Leave, Post,
-    SendNative, Take,
+    ConnectNative, Disconnect, Enter, EnterOther, EnterWeb, HostEnded, HostSaid, HostTake, Leave,
+    Post, SendNative, Take,
 };
 use crate::calls::Want::{Is, Told};
 use crate::calls::{CHANNEL, REQUEST, Row, Step, make, play, world_of_hosts};
-use crate::values::{A, B};
+use crate::values::A;
 use std::process::Abort;
 use std::test::Fail;
 use wx_broker::HostView;
@@ -21,7 +21,7 @@ const CLOSED: EventKind = EventKind::Closed(REQUEST);
 const TOO_LONG: Reason = Reason::TooLong { len: 1_869_768_803 };
 
 const HOST_ENDS_TOO_LONG: &[Row] = &[
-    (0, Enter(A, "/p"), Is(Answer::Entered(ContextNo(0)))),
+    (0, Enter("/p"), Is(Answer::Entered(ContextNo(0)))),
     (0, ConnectNative("e"), Is(Answer::Channel(ChannelNo(0)))),
     (0, HostEnded(TOO_LONG), Is(Answer::Done)),
     (0, Take, Told(2, DISCONNECTED)),
@@ -29,7 +29,7 @@ const HOST_ENDS_TOO_LONG: &[Row] = &[
 ];
 
 const HOST_ENDS_EXITED: &[Row] = &[
-    (0, Enter(A, "/p"), Is(Answer::Entered(ContextNo(0)))),
+    (0, Enter("/p"), Is(Answer::Entered(ContextNo(0)))),
     (0, ConnectNative("e"), Is(Answer::Channel(ChannelNo(0)))),
     (0, HostEnded(Reason::Exited), Is(Answer::Done)),
     (0, Take, Told(2, DISCONNECTED)),
@@ -37,7 +37,7 @@ const HOST_ENDS_EXITED: &[Row] = &[
 ];
 
 const ENDED_HOST: &[Row] = &[
-    (0, Enter(A, "/p"), Is(Answer::Entered(ContextNo(0)))),
+    (0, Enter("/p"), Is(Answer::Entered(ContextNo(0)))),
     (0, ConnectNative("e"), Is(Answer::Channel(ChannelNo(0)))),
     (0, HostTake, Is(Answer::Empty)),
     (0, HostEnded(TOO_LONG), Is(Answer::Done)),
@@ -51,7 +51,7 @@ const ENDED_HOST: &[Row] = &[
 ];
 
 const HOST_REPLIES: &[Row] = &[
-    (0, Enter(A, "/p"), Is(Answer::Entered(ContextNo(0)))),
+    (0, Enter("/p"), Is(Answer::Entered(ContextNo(0)))),
     (0, SendNative("e", "0"), Is(Answer::Request(REQUEST))),
     (0, HostTake, Is(Answer::Text(EntryNo(1)))),
     (0, HostSaid("1"), Is(Answer::Passed)),
@@ -63,7 +63,7 @@ const HOST_REPLIES: &[Row] = &[
 ];
 
 const HOST_FAILS_TO_START: &[Row] = &[
-    (0, Enter(A, "/p"), Is(Answer::Entered(ContextNo(0)))),
+    (0, Enter("/p"), Is(Answer::Entered(ContextNo(0)))),
     (0, SendNative("e", "0"), Is(Answer::Request(REQUEST))),
     (0, HostEnded(Reason::StartFailed), Is(Answer::Done)),
     (0, Take, Told(2, CLOSED)),
@@ -71,7 +71,7 @@ const HOST_FAILS_TO_START: &[Row] = &[
 ];
 
 const HOSTS_TAKE_THEIR_OWN: &[Row] = &[
-    (0, Enter(A, "/p"), Is(Answer::Entered(ContextNo(0)))),
+    (0, Enter("/p"), Is(Answer::Entered(ContextNo(0)))),
     (0, ConnectNative("e"), Is(Answer::Channel(ChannelNo(0)))),
     (0, ConnectNative("e"), Is(Answer::Channel(ChannelNo(1)))),
     (0, Post(0, "1"), Is(Answer::Posted)),
@@ -90,10 +90,10 @@ const HOSTS_TAKE_THEIR_OWN: &[Row] = &[
 const NATIVE_GATE: &[Row] = &[
     (0, EnterWeb, Is(Answer::Entered(ContextNo(0)))),
     (0, ConnectNative("e"), Is(Answer::BadTarget)),
-    (1, Enter(B, "/p"), Is(Answer::Entered(ContextNo(1)))),
+    (1, EnterOther("/p"), Is(Answer::Entered(ContextNo(1)))),
     (1, ConnectNative(".e"), Is(Answer::NoPermission)),
     (1, SendNative(".e", "1"), Is(Answer::NoPermission)),
-    (2, Enter(A, "/p"), Is(Answer::Entered(ContextNo(2)))),
+    (2, Enter("/p"), Is(Answer::Entered(ContextNo(2)))),
     (2, ConnectNative(".e"), Is(Answer::BadHostName)),
     (2, ConnectNative("g"), Is(Answer::HostNotFound)),
     (2, SendNative("f", "1"), Is(Answer::HostForbidden)),

@@ -27,8 +27,8 @@ const REPLIED: EventKind = EventKind::Replied(REQUEST);
 const CLOSED: EventKind = EventKind::Closed(REQUEST);
 
 const ONE_CONNECTION_ONE_POST: &[Row] = &[
-    (0, Enter(A, "/q"), Is(Answer::Entered(ContextNo(0)))),
-    (1, Enter(A, "/p"), Is(Answer::Entered(ContextNo(1)))),
+    (0, Enter("/q"), Is(Answer::Entered(ContextNo(0)))),
+    (1, Enter("/p"), Is(Answer::Entered(ContextNo(1)))),
     (1, Listen, Is(Answer::Done)),
     (0, Connect, Is(Answer::Channel(CHANNEL))),
     (1, Take, Told(3, CONNECTED)),
@@ -41,17 +41,17 @@ const ONE_CONNECTION_ONE_POST: &[Row] = &[
 ];
 
 const CONNECT_REACHES_NOBODY: &[Row] = &[
-    (0, Enter(A, "/p"), Is(Answer::Entered(ContextNo(0)))),
+    (0, Enter("/p"), Is(Answer::Entered(ContextNo(0)))),
     (0, Listen, Is(Answer::Done)),
     (0, Connect, Is(Answer::NoReceiver)),
     (0, Leave, Is(Answer::Done)),
 ];
 
 const RECEIVER_DISCONNECTS: &[Row] = &[
-    (0, Enter(A, "/s"), Is(Answer::Entered(ContextNo(0)))),
-    (1, Enter(A, "/p"), Is(Answer::Entered(ContextNo(1)))),
+    (0, Enter("/s"), Is(Answer::Entered(ContextNo(0)))),
+    (1, Enter("/p"), Is(Answer::Entered(ContextNo(1)))),
     (1, Listen, Is(Answer::Done)),
-    (2, Enter(A, "/q"), Is(Answer::Entered(ContextNo(2)))),
+    (2, Enter("/q"), Is(Answer::Entered(ContextNo(2)))),
     (2, Listen, Is(Answer::Done)),
     (0, Connect, Is(Answer::Channel(CHANNEL))),
     (1, Take, Told(5, CONNECTED)),
@@ -67,10 +67,10 @@ const RECEIVER_DISCONNECTS: &[Row] = &[
 ];
 
 const RECEIVER_LEAVES: &[Row] = &[
-    (0, Enter(A, "/s"), Is(Answer::Entered(ContextNo(0)))),
-    (1, Enter(A, "/p"), Is(Answer::Entered(ContextNo(1)))),
+    (0, Enter("/s"), Is(Answer::Entered(ContextNo(0)))),
+    (1, Enter("/p"), Is(Answer::Entered(ContextNo(1)))),
     (1, Listen, Is(Answer::Done)),
-    (2, Enter(A, "/q"), Is(Answer::Entered(ContextNo(2)))),
+    (2, Enter("/q"), Is(Answer::Entered(ContextNo(2)))),
     (2, Listen, Is(Answer::Done)),
     (0, Connect, Is(Answer::Channel(CHANNEL))),
     (1, Take, Told(5, CONNECTED)),
@@ -83,8 +83,8 @@ const RECEIVER_LEAVES: &[Row] = &[
 ];
 
 const POSTS_OUTLIVE_THE_OPENER: &[Row] = &[
-    (0, Enter(A, "/q"), Is(Answer::Entered(ContextNo(0)))),
-    (1, Enter(A, "/p"), Is(Answer::Entered(ContextNo(1)))),
+    (0, Enter("/q"), Is(Answer::Entered(ContextNo(0)))),
+    (1, Enter("/p"), Is(Answer::Entered(ContextNo(1)))),
     (1, Listen, Is(Answer::Done)),
     (0, Connect, Is(Answer::Channel(CHANNEL))),
     (1, Listen, Is(Answer::Done)),
@@ -106,8 +106,8 @@ const POSTS_OUTLIVE_THE_OPENER: &[Row] = &[
 ];
 
 const DISCONNECT_DROPS_WHAT_WAITS: &[Row] = &[
-    (0, Enter(A, "/q"), Is(Answer::Entered(ContextNo(0)))),
-    (1, Enter(A, "/p"), Is(Answer::Entered(ContextNo(1)))),
+    (0, Enter("/q"), Is(Answer::Entered(ContextNo(0)))),
+    (1, Enter("/p"), Is(Answer::Entered(ContextNo(1)))),
     (1, Listen, Is(Answer::Done)),
     (0, Connect, Is(Answer::Channel(CHANNEL))),
     (1, Listen, Is(Answer::Done)),
@@ -123,10 +123,10 @@ const DISCONNECT_DROPS_WHAT_WAITS: &[Row] = &[
 ];
 
 const FIRST_REPLY_WINS: &[Row] = &[
-    (0, Enter(A, "/s"), Is(Answer::Entered(ContextNo(0)))),
-    (1, Enter(A, "/p"), Is(Answer::Entered(ContextNo(1)))),
+    (0, Enter("/s"), Is(Answer::Entered(ContextNo(0)))),
+    (1, Enter("/p"), Is(Answer::Entered(ContextNo(1)))),
     (1, ListenToMessages, Is(Answer::Done)),
-    (2, Enter(A, "/q"), Is(Answer::Entered(ContextNo(2)))),
+    (2, Enter("/q"), Is(Answer::Entered(ContextNo(2)))),
     (2, ListenToMessages, Is(Answer::Done)),
     (0, Send("\"hi\""), Is(Answer::Request(REQUEST))),
     (1, Take, Told(5, ASKED)),
@@ -141,10 +141,10 @@ const FIRST_REPLY_WINS: &[Row] = &[
 ];
 
 const CLOSED_WITHOUT_REPLY: &[Row] = &[
-    (0, Enter(A, "/s"), Is(Answer::Entered(ContextNo(0)))),
-    (1, Enter(A, "/p"), Is(Answer::Entered(ContextNo(1)))),
+    (0, Enter("/s"), Is(Answer::Entered(ContextNo(0)))),
+    (1, Enter("/p"), Is(Answer::Entered(ContextNo(1)))),
     (1, ListenToMessages, Is(Answer::Done)),
-    (2, Enter(A, "/q"), Is(Answer::Entered(ContextNo(2)))),
+    (2, Enter("/q"), Is(Answer::Entered(ContextNo(2)))),
     (2, ListenToMessages, Is(Answer::Done)),
     (0, Send("\"hi\""), Is(Answer::Request(REQUEST))),
     (1, Take, Told(5, ASKED)),
@@ -157,10 +157,10 @@ const CLOSED_WITHOUT_REPLY: &[Row] = &[
 ];
 
 const ASKER_LEAVES: &[Row] = &[
-    (0, Enter(A, "/s"), Is(Answer::Entered(ContextNo(0)))),
-    (1, Enter(A, "/p"), Is(Answer::Entered(ContextNo(1)))),
+    (0, Enter("/s"), Is(Answer::Entered(ContextNo(0)))),
+    (1, Enter("/p"), Is(Answer::Entered(ContextNo(1)))),
     (1, ListenToMessages, Is(Answer::Done)),
-    (2, Enter(A, "/q"), Is(Answer::Entered(ContextNo(2)))),
+    (2, Enter("/q"), Is(Answer::Entered(ContextNo(2)))),
     (2, ListenToMessages, Is(Answer::Done)),
     (0, Send("\"hi\""), Is(Answer::Request(REQUEST))),
     (1, Take, Told(5, ASKED)),
@@ -175,10 +175,10 @@ const ASKER_LEAVES: &[Row] = &[
 ];
 
 const DECLINED_TWICE: &[Row] = &[
-    (0, Enter(A, "/s"), Is(Answer::Entered(ContextNo(0)))),
-    (1, Enter(A, "/p"), Is(Answer::Entered(ContextNo(1)))),
+    (0, Enter("/s"), Is(Answer::Entered(ContextNo(0)))),
+    (1, Enter("/p"), Is(Answer::Entered(ContextNo(1)))),
     (1, ListenToMessages, Is(Answer::Done)),
-    (2, Enter(A, "/q"), Is(Answer::Entered(ContextNo(2)))),
+    (2, Enter("/q"), Is(Answer::Entered(ContextNo(2)))),
     (2, ListenToMessages, Is(Answer::Done)),
     (0, Send("\"hi\""), Is(Answer::Request(REQUEST))),
     (1, Take, Told(5, ASKED)),
@@ -192,8 +192,8 @@ const DECLINED_TWICE: &[Row] = &[
 ];
 
 const EARLY_DECLINE: &[Row] = &[
-    (0, Enter(A, "/s"), Is(Answer::Entered(ContextNo(0)))),
-    (1, Enter(A, "/p"), Is(Answer::Entered(ContextNo(1)))),
+    (0, Enter("/s"), Is(Answer::Entered(ContextNo(0)))),
+    (1, Enter("/p"), Is(Answer::Entered(ContextNo(1)))),
     (0, Send("1"), Is(Answer::NoReceiver)),
     (1, ListenToMessages, Is(Answer::Done)),
     (1, Decline, Is(Answer::NotYours)),
@@ -205,8 +205,8 @@ const EARLY_DECLINE: &[Row] = &[
 ];
 
 const CHANNELS_BEFORE_REQUESTS: &[Row] = &[
-    (0, Enter(A, "/s"), Is(Answer::Entered(ContextNo(0)))),
-    (1, Enter(A, "/p"), Is(Answer::Entered(ContextNo(1)))),
+    (0, Enter("/s"), Is(Answer::Entered(ContextNo(0)))),
+    (1, Enter("/p"), Is(Answer::Entered(ContextNo(1)))),
     (1, ListenToMessages, Is(Answer::Done)),
     (0, Send("1"), Is(Answer::Request(REQUEST))),
     (1, Listen, Is(Answer::Done)),
@@ -217,13 +217,25 @@ const CHANNELS_BEFORE_REQUESTS: &[Row] = &[
     (0, Take, Is(Answer::Empty)),
 ];
 
-/// Plays after which nothing more is asked.
-const PLAYS: &[(&str, &[Row])] = &[
+/// Plays of channels.
+const CHANNELS: &[(&str, &[Row])] = &[
     ("connect reaches nobody", CONNECT_REACHES_NOBODY),
     ("receiver disconnects", RECEIVER_DISCONNECTS),
     ("receiver leaves", RECEIVER_LEAVES),
     ("posts outlive the opener", POSTS_OUTLIVE_THE_OPENER),
     ("disconnect drops what waits", DISCONNECT_DROPS_WHAT_WAITS),
+];
+
+#[test]
+fn channels(rt: HostRuntime) -> Result<(), Fail> {
+    for (name, rows) in CHANNELS {
+        let _ = play(&rt, rt.alloc(), World::new(rt.alloc()), name, rows);
+    }
+    Ok(())
+}
+
+/// Plays of requests.
+const REQUESTS: &[(&str, &[Row])] = &[
     ("first reply wins", FIRST_REPLY_WINS),
     ("closed without reply", CLOSED_WITHOUT_REPLY),
     ("asker leaves", ASKER_LEAVES),
@@ -233,8 +245,8 @@ const PLAYS: &[(&str, &[Row])] = &[
 ];
 
 #[test]
-fn worked_examples(rt: HostRuntime) -> Result<(), Fail> {
-    for (name, rows) in PLAYS {
+fn requests(rt: HostRuntime) -> Result<(), Fail> {
+    for (name, rows) in REQUESTS {
         let _ = play(&rt, rt.alloc(), World::new(rt.alloc()), name, rows);
     }
     Ok(())
@@ -252,8 +264,8 @@ fn one_connection_one_post(rt: HostRuntime) -> Result<(), Fail> {
 }
 
 const TWO_ENDS: &[Row] = &[
-    (0, Enter(A, "/q"), Is(Answer::Entered(ContextNo(0)))),
-    (1, Enter(A, "/p"), Is(Answer::Entered(ContextNo(1)))),
+    (0, Enter("/q"), Is(Answer::Entered(ContextNo(0)))),
+    (1, Enter("/p"), Is(Answer::Entered(ContextNo(1)))),
     (1, Listen, Is(Answer::Done)),
     (0, Connect, Is(Answer::Channel(CHANNEL))),
 ];
@@ -288,8 +300,8 @@ fn longest_post(rt: HostRuntime) -> Result<(), Fail> {
 }
 
 const TWO_PAGES: &[Row] = &[
-    (0, Enter(A, "/s"), Is(Answer::Entered(ContextNo(0)))),
-    (1, Enter(A, "/p"), Is(Answer::Entered(ContextNo(1)))),
+    (0, Enter("/s"), Is(Answer::Entered(ContextNo(0)))),
+    (1, Enter("/p"), Is(Answer::Entered(ContextNo(1)))),
 ];
 
 /// The caller, its call, whether it passes a text of 67,108,865 bytes, and the answer.
