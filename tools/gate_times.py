@@ -3,8 +3,8 @@
 
     tools/gate_times.py [LOG]          runs `rt ci` at the top of the repository, with what it prints in LOG (gate.log in
                                        the system's folder for temporary files, if none is named), and ends with its status
-    tools/gate_times.py watch [PID]    watches an `rt ci` that somebody else runs: the one with this process id, or the one
-                                       that runs in this repository, or the next that is started there
+    tools/gate_times.py watch [PID]    watches an `rt ci` that somebody else runs: the one with this process id, or each
+                                       that runs in this repository, or the next that is started there, until none runs
     tools/gate_times.py table          writes the table anew from what was last measured, with the lines and numbers as
                                        the files have them now
 
@@ -12,7 +12,8 @@ The first two write the table when the run ends, or when they are interrupted. E
 checker's processes have used: a crate's proof, its tests (a crate with tests is proved once more with them), the seed of
 its must-fail edits (the crate proved once more, for them to begin with) and the edits. What a process used in its last
 second is missed; what the whole run used is taken from the run's own process, and the difference is told. A run that is
-watched from its middle on tells the whole all the same. With nothing kept on the machine the times are those from nothing.
+watched from its middle on tells the whole all the same. A crate that the run took over from an earlier run keeps the
+minutes that the table has for it, so runs of some crates each fill it too; from nothing, all are measured anew.
 """
 import collections
 import json
@@ -82,8 +83,8 @@ def look(pid, used):
         used[f"{pid} {stat[19]}"] = [crate, part_of(words, folder), minutes]
 
 
-def whole(gate, under):
-    """The processor minutes of the run so far: its own, those of its children that have ended, and those that live."""
+def whole(under):
+    """The processor minutes of a run so far: its own, those of its children that have ended, and those that live."""
     ticks = 0
     for pid in under:
         try:
@@ -104,17 +105,24 @@ def is_gate(pid):
     return at is not None and words[at + 1 : at + 2] == ["ci"] and os.path.realpath(folder) == os.path.realpath(TOP)
 
 
-def found_gate():
-    """The `rt ci` of this repository, once there is one: the uppermost of its processes."""
-    while True:
-        gates = [pid for pid in pids() if is_gate(pid)]
-        for pid in gates:
-            try:
-                if int(stat_of(pid)[1]) not in gates:
-                    return pid
-            except OSError:
-                pass
+def found_gates():
+    """The runs of `rt ci` in this repository: the uppermost process of each."""
+    gates = [pid for pid in pids() if is_gate(pid)]
+    found = []
+    for pid in gates:
+        try:
+            if int(stat_of(pid)[1]) not in gates:
+                found.append(pid)
+        except OSError:
+            pass
+    return found
+
+
+def awaited_gates():
+    """The same, once there is one."""
+    while not (found := found_gates()):
         time.sleep(1)
+    return found
 
 
 def begun_at(pid):
@@ -130,19 +138,23 @@ def save(measured):
     os.replace(STATE + ".new", STATE)
 
 
-def watch(gate, is_over):
-    """Notes what the run's processes use until it is over, and then writes the table."""
-    begun, used = begun_at(gate), {}
-    measured = {"used": used, "whole": 0, "wall": 0, "over": False}
+def watch(running):
+    """Notes what the processes of the runs use until none runs; running tells which do."""
+    used, wholes = {}, {}
     commit = subprocess.run(["git", "rev-parse", "--short", "HEAD"], cwd=TOP, capture_output=True, text=True).stdout.strip()
-    measured["commit"] = commit or "(no commit)"
-    measured["processors"] = os.cpu_count()
-    rounds = 0
-    while not is_over():
-        under = below(gate)
-        for pid in under:
-            look(pid, used)
-        measured["whole"] = max(measured["whole"], whole(gate, under))
+    measured = {"used": used, "whole": 0, "wall": 0, "over": False, "commit": commit or "(no commit)", "processors": os.cpu_count()}
+    begun, rounds = time.time(), 0
+    while gates := running():
+        for gate in gates:
+            try:
+                begun = min(begun, begun_at(gate))
+                under = below(gate)
+            except OSError:
+                continue
+            for pid in under:
+                look(pid, used)
+            wholes[gate] = max(wholes.get(gate, 0), whole(under))
+        measured["whole"] = sum(wholes.values())
         measured["wall"] = (time.time() - begun) / 60
         rounds += 1
         if rounds % 30 == 1:
@@ -179,7 +191,7 @@ def texts(crate, folder, ending):
 
 
 def counts(crate):
-    """Lines of code, of definitions and of proofs; how many tests and edits."""
+    """Lines of code, of definitions and of proofs; how many test functions, tests and edits."""
     source = texts(crate, "src", ".rt")
     every = "\n".join(source.values())
     tested = set(re.findall(r"#\[cfg\(test\)\]\s*(?:pub(?:\(crate\))? )?mod (\w+);", every))
@@ -190,6 +202,7 @@ def counts(crate):
         "code": code,
         "definitions": lines(texts(crate, "specs", ".antt").values()),
         "proofs": lines(texts(crate, "proofs", ".antt").values()),
+        "functions": len(re.findall(r"(?m)^\s*#\[test\]", every)),
         "tests": len(re.findall(r"(?m)^\s*#\[test\]", every)) + rows,
         "edits": len(texts(crate, "must-fail", ".edit")),
     }
@@ -198,11 +211,27 @@ def counts(crate):
 COUNTS = ("code", "definitions", "proofs", "tests", "edits")
 
 
-def table(measured):
-    """The lines of the table."""
+def told(page):
+    """The minutes that the page's table has, by crate and part."""
     minutes = collections.defaultdict(collections.Counter)
+    for line in page.split("\n"):
+        cells = [cell.strip() for cell in line.strip().strip("|").split("|")]
+        if len(cells) == 2 + len(COUNTS) + len(PARTS) and cells[0].startswith("`"):
+            for part, cell in zip(PARTS, cells[1 + len(COUNTS) :]):
+                minutes[cells[0].strip("`")][part] = float(cell) if cell != "-" else 0
+    return minutes
+
+
+def table(measured, page):
+    """The lines of the table, with what the page has of the crates that were not measured."""
+    seen = collections.defaultdict(collections.Counter)
     for crate, part, so_far in measured.get("used", {}).values():
-        minutes[crate][part] += so_far
+        seen[crate][part] += so_far
+    minutes = told(page)
+    for crate, parts in seen.items():
+        for part, it in parts.items():
+            if it >= 0.05:
+                minutes[crate][part] = it
     number = lambda it: f"{it:.1f}" if it >= 0.05 else "-"
     heads = ["crate", *COUNTS, "proof", "tests", "seed", "edits", "in all"]
     out = ["| " + " | ".join(heads) + " |", "|---|" + "---:|" * (len(heads) - 1)]
@@ -210,20 +239,25 @@ def table(measured):
     for crate in crates():
         count = counts(crate)
         sums.update(count)
+        # What a crate no longer has costs nothing.
+        if not count["functions"]:
+            minutes[crate]["tests"] = 0
+        if not count["edits"]:
+            minutes[crate]["seed"] = minutes[crate]["edits"] = 0
         total.update(minutes[crate])
         cells = [f"`{crate}`", *(f"{count[it]:,}" for it in COUNTS), *(number(minutes[crate][it]) for it in PARTS)]
         out.append("| " + " | ".join([*cells, number(sum(minutes[crate].values()))]) + " |")
-    seen = sum(total.values())
-    cells = ["**in all**", *(f"{sums[it]:,}" for it in COUNTS), *(number(total[it]) for it in PARTS), number(seen)]
+    cells = ["**in all**", *(f"{sums[it]:,}" for it in COUNTS), *(number(total[it]) for it in PARTS), number(sum(total.values()))]
     out.append("| " + " | ".join(cells) + " |")
     if not measured:
-        return ["Nothing was measured yet.", "", *out]
+        return ["No run was measured since.", "", *out]
     end = "" if measured["over"] else " It had not ended when this was written."
-    rest = max(0, measured["whole"] - seen)
+    rest = max(0, measured["whole"] - sum(sum(parts.values()) for parts in seen.values()))
     said = (
-        f"The run at commit {measured['commit']} took {measured['whole']:.0f} processor minutes on "
-        f"{measured['processors']} processors, and {measured['wall']:.0f} minutes of the clock.{end} "
-        f"Of these, {rest:.0f} are of no line below: compiling, running tests and programs, and the last second of each check."
+        f"The last run that was measured, at commit {measured['commit']}, took {measured['whole']:.0f} processor minutes on "
+        f"{measured['processors']} processors, and {measured['wall']:.0f} minutes of the clock.{end} It proved "
+        f"{sum(parts['proof'] >= 0.05 for parts in seen.values())} of {len(crates())} crates; what it took over has the minutes of the run that "
+        f"proved or tried it last. {rest:.0f} of its minutes are of no line below: compiling, running tests and programs, and the last second of each check."
     )
     return [said, "", *out]
 
@@ -238,7 +272,7 @@ def write_table():
         page = f.read()
     before, after = page.split(BEGIN)[0], page.split(END)[1]
     with open(PAGE, "w", encoding="utf-8") as f:
-        f.write("\n".join([before + BEGIN, "", *table(measured), "", END + after]))
+        f.write("\n".join([before + BEGIN, "", *table(measured, page), "", END + after]))
     return measured
 
 
@@ -251,13 +285,16 @@ def main():
     status = 0
     try:
         if words[:1] == ["watch"]:
-            gate = int(words[1]) if len(words) > 1 else found_gate()
-            watch(gate, lambda: is_gone(gate))
+            if len(words) > 1:
+                watch(lambda: [] if is_gone(int(words[1])) else [int(words[1])])
+            else:
+                awaited_gates()
+                watch(found_gates)
         else:
             log = words[0] if words else os.path.join(tempfile.gettempdir(), "gate.log")
             with open(log, "w") as out:
                 run = subprocess.Popen(["rt", "ci"], cwd=TOP, stdout=out, stderr=subprocess.STDOUT)
-                watch(run.pid, lambda: run.poll() is not None)
+                watch(lambda: [run.pid] if run.poll() is None else [])
             status = run.returncode
     except KeyboardInterrupt:
         status = 130
