@@ -1,14 +1,15 @@
 //! The broker as a library: two pages of one extension talk to each other, without a scene.
 #![tactic(auto)]
 
-ghost use Rattle.std.specs.Prelude.{◌≡◌, codes, IfSome};
+ghost use Rattle.std.specs.Prelude.{◌≡◌, ◌<◌, codes, reverse, IfSome};
+ghost use Rattle.wx_machine.specs.Contexts.{contexts};
 
 use std::alloc::Global;
 use std::io::{self, Write};
 use wx_broker::Broker;
 use wx_context::{Context, Listens, PagePath, Target};
 use wx_external::World;
-use wx_id::{ExtensionId, Utf8Text};
+use wx_id::{ChannelNo, ContextNo, EntryNo, ExtensionId, Utf8Text};
 use wx_journal::Journal;
 use wx_machine::{Answer, JsonText};
 
@@ -28,6 +29,25 @@ fn page(alloc: Global, path: &str) -> Option<Context>
     Some(Context::Page { ext, path })
 }
 
+/// The popup posts a text, and the hub takes two events: the entry of the second. None where memory was refused.
+fn deliver(
+    broker: &mut Broker,
+    hub: ContextNo,
+    popup: ContextNo,
+    channel: ChannelNo,
+    text: JsonText,
+) -> Option<EntryNo>
+    requires hub { hub.0 < contexts (reverse broker.old.entries) }
+    requires popup { popup.0 < contexts (reverse broker.old.entries) }
+{
+    broker.post(popup, channel, text).ok()?;
+    broker.take(hub).ok()?;
+    match broker.take(hub).ok()? {
+        Answer::Event(event) => Some(event.entry),
+        _ => None,
+    }
+}
+
 /// The popup connects to the hub and posts a text: what the hub takes, and the journal. None where memory was refused.
 fn talk(alloc: Global, text: JsonText) -> Option<(JsonText, Journal)> {
     let mut broker = Broker::new(alloc, World::new(alloc));
@@ -38,12 +58,8 @@ fn talk(alloc: Global, text: JsonText) -> Option<(JsonText, Journal)> {
     let Answer::Channel(channel) = broker.connect(popup, Target::Own, name).ok()? else {
         return None;
     };
-    broker.post(popup, channel, text).ok()?;
-    broker.take(hub).ok()?;
-    let Answer::Event(event) = broker.take(hub).ok()? else {
-        return None;
-    };
-    let taken = broker.journal().text_of(event.entry)?.try_clone().ok()?;
+    let entry = deliver(&mut broker, hub, popup, channel, text)?;
+    let taken = broker.journal().text_of(entry)?.try_clone().ok()?;
     Some((taken, broker.into_journal()))
 }
 
