@@ -9,7 +9,7 @@ use std::io::{self, Write};
 use wx_broker::Broker;
 use wx_context::{Context, Listens, PagePath, Target};
 use wx_external::World;
-use wx_id::{ChannelNo, ContextNo, EntryNo, ExtensionId, Utf8Text};
+use wx_id::{ContextNo, EntryNo, ExtensionId, Utf8Text};
 use wx_journal::Journal;
 use wx_machine::{Answer, JsonText};
 
@@ -29,17 +29,22 @@ fn page(alloc: Global, path: &str) -> Option<Context>
     Some(Context::Page { ext, path })
 }
 
-/// The popup posts a text, and the hub takes two events: the entry of the second. None where memory was refused.
-fn deliver(
+/// The hub listens, the popup connects to it and posts a text, and the hub takes two events: the entry of the second.
+/// None where memory was refused.
+fn talk(
     broker: &mut Broker,
     hub: ContextNo,
     popup: ContextNo,
-    channel: ChannelNo,
+    name: Utf8Text,
     text: JsonText,
 ) -> Option<EntryNo>
     requires hub { hub.0 < contexts (reverse broker.old.entries) }
     requires popup { popup.0 < contexts (reverse broker.old.entries) }
 {
+    broker.listen(hub, CONNECTIONS).ok()?;
+    let Answer::Channel(channel) = broker.connect(popup, Target::Own, name).ok()? else {
+        return None;
+    };
     broker.post(popup, channel, text).ok()?;
     broker.take(hub).ok()?;
     match broker.take(hub).ok()? {
@@ -48,17 +53,13 @@ fn deliver(
     }
 }
 
-/// The popup connects to the hub and posts a text: what the hub takes, and the journal. None where memory was refused.
-fn talk(alloc: Global, text: JsonText) -> Option<(JsonText, Journal)> {
+/// Two pages come in and talk: what the hub took, and the journal. None where memory was refused.
+fn meet(alloc: Global, text: JsonText) -> Option<(JsonText, Journal)> {
     let mut broker = Broker::new(alloc, World::new(alloc));
     let hub = broker.enter(page(alloc, "/hub")?).ok()?;
     let popup = broker.enter(page(alloc, "/popup")?).ok()?;
-    broker.listen(hub, CONNECTIONS).ok()?;
     let name = Utf8Text::new(alloc, "").ok()?;
-    let Answer::Channel(channel) = broker.connect(popup, Target::Own, name).ok()? else {
-        return None;
-    };
-    let entry = deliver(&mut broker, hub, popup, channel, text)?;
+    let entry = talk(&mut broker, hub, popup, name, text)?;
     let taken = broker.journal().text_of(entry)?.try_clone().ok()?;
     Some((taken, broker.into_journal()))
 }
@@ -66,7 +67,7 @@ fn talk(alloc: Global, text: JsonText) -> Option<(JsonText, Journal)> {
 fn main(rt: HostRuntime) -> io::Result<()> {
     let alloc = rt.alloc();
     let text = JsonText::new(Vec::from_slice(alloc, b"{\"from\":\"popup\"}")?);
-    let Some((taken, journal)) = text.ok().and_then(|text| talk(alloc, text)) else {
+    let Some((taken, journal)) = text.ok().and_then(|text| meet(alloc, text)) else {
         return eprintln!(rt; "no memory");
     };
     let mut out = rt.stdout();
