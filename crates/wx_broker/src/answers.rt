@@ -10,7 +10,8 @@ ghost use Rattle.wx_machine.specs.Events.{pending};
 ghost use Rattle.wx_machine.specs.Requests.{is_asked, request};
 ghost use Rattle.wx_port.specs.Port.{end_of, is_open_port};
 ghost use Rattle.wx_one_shot.specs.Requests.{standing_at};
-ghost use Rattle.wx_broker.specs.Tables.{HasChannels, HasRequests, is_channel, is_request, is_done, is_first, on_standing};
+ghost use Rattle.wx_broker.specs.Tables.{HasChannels, HasRequests, is_channel, is_request};
+ghost use Rattle.wx_broker.specs.Tables.{is_done, is_first, on_standing};
 
 use wx_context::{Context, Target};
 use wx_external::{Verdict, World, gate};

@@ -36,7 +36,12 @@ impl Model for Broker {
 
     ghost Value = { BrokerState };
 
-    ghost view = { λ broker. record { world = broker.world; entries = broker.journal.entries; spare = broker.journal.spare } };
+    ghost view = { λ broker. record {
+      world = broker.world;
+      entries = broker.journal.entries;
+      spare =
+          broker.journal.spare;
+    } };
 
     ghost invariant = { λ broker. IsKept broker.world broker.journal.entries broker.ports broker.requests };
 }

@@ -1,6 +1,7 @@
 //! The machine's answers to the calls that start native hosts, and to those of hosts.
 ghost use Rattle.std.specs.Prelude.{◌≡◌, cond, length, option_copied, reverse};
-ghost use Rattle.wx_machine.specs.Answers.{answer_after, answer_to_host, is_news, native_gate_for, said_for, text_or_end, where_native};
+ghost use Rattle.wx_machine.specs.Answers.{answer_after, answer_to_host, is_news, native_gate_for};
+ghost use Rattle.wx_machine.specs.Answers.{said_for, text_or_end, where_native};
 ghost use Rattle.wx_machine.specs.Contexts.{context_of, is_live};
 ghost use Rattle.wx_machine.specs.Hosts.{work_of};
 ghost use Rattle.wx_machine.specs.Texts.{has_ended, is_over};

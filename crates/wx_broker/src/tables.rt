@@ -1,5 +1,6 @@
 //! What an answered call changes in the tables of channels and requests.
-ghost use Rattle.std.specs.Prelude.{◌≡◌, ℕ, ◌<◌, ◌≤◌, ◌+◌, [], ◌∷◌, ◌++◌, ◌&&◌, ◌==◌, cond, false, filter, length, not, IfOk, IsTrue, OnErr, OnOk, option_to_list, reverse, slice_get};
+ghost use Rattle.std.specs.Prelude.{◌≡◌, ℕ, ◌<◌, ◌≤◌, ◌+◌, [], ◌∷◌, ◌++◌, ◌&&◌, ◌==◌, cond, false, filter, length};
+ghost use Rattle.std.specs.Prelude.{not, IfOk, IsTrue, OnErr, OnOk, option_to_list, reverse, slice_get};
 ghost use Rattle.std.specs.Option.{option_map};
 ghost use Rattle.wx_machine.specs.Hosts.{is_for_channel, is_for_request};
 ghost use Rattle.wx_machine.specs.Contexts.{enters, is_receiver, numbers_of, receivers_of};
@@ -84,7 +85,8 @@ pub fn open(
     requires distinct { IsTrue (are_distinct (receivers_of (reverse entries.now) c target.now Sort.Connection)) }
     requires opener { is_among (receivers_of (reverse entries.now) c target.now Sort.Connection) c ≡ false }
     ensures ok { OnOk result (ports.new ≡ ports.old
-        ++ cond (is_channel answer) (opened c (receivers_of (reverse entries.now) c target.now Sort.Connection) ∷ []) []) }
+        ++ cond (is_channel answer) (opened c (receivers_of (reverse entries.now) c target.now Sort.Connection) ∷ [])
+        []) }
     ensures err { OnErr result (ports.new ≡ ports.old) }
     ensures cause { OnErr result (IsTrue (is_channel answer)) }
 {
@@ -124,8 +126,8 @@ pub fn ask(
     }
 }
 
-/// Opens a channel from context c to a native host, where its call was answered with one. In place of the host it has no
-/// receivers.
+/// Opens a channel from context c to a native host, where its call was answered with one. In place of the host it has
+/// no receivers.
 pub fn open_native(
     ports: &mut Ports,
     alloc: Global,

@@ -13,8 +13,8 @@ fn host(h: u64) -> Who {
     Who::Host(HostNo(h))
 }
 
-/// The channel of host 0: two posts, of which one is refused, a text that the host takes, a message that it says and that
-/// the caller takes, and its end.
+/// The channel of host 0: two posts, of which one is refused, a text that the host takes, a message that it says and
+/// that the caller takes, and its end.
 fn push_channel(entries: &mut Vec<Entry>, alloc: Global) -> Option<()> {
     let k = ChannelNo(0);
     let connect = Call::ConnectNative(name(alloc, "e")?);
@@ -50,8 +50,8 @@ fn push_request(entries: &mut Vec<Entry>, alloc: Global, r: u64) -> Option<()> {
     push(entries, CALLER, send, Answer::Request(RequestNo(r)))
 }
 
-/// Host 0 on a channel, and hosts 1 to 3 on requests: the first replies, the second does not start, and the asker leaves
-/// the third. The list is not legal, since the caller never comes in.
+/// Host 0 on a channel, and hosts 1 to 3 on requests: the first replies, the second does not start, and the asker
+/// leaves the third. The list is not legal, since the caller never comes in.
 fn entries(alloc: Global) -> Option<Vec<Entry>> {
     let mut entries = Vec::new(alloc);
     push_channel(&mut entries, alloc)?;

@@ -40,14 +40,16 @@ pub record ManifestIsWrong (words : List (List ℕ)) (shelf : ShelfChange) (out 
   pub first : world_of sound.files sound.scene ≡ Err refusal
 
 -- The answer is that of some run of the scene in this world; that this run's text was written, the headline says.
-pub record AnswersRun (how : How) (world : WorldLists) (scene : SceneValue) (starter : StarterChange) (result : Status) : Type 0 where
+pub record AnswersRun (how : How) (world : WorldLists) (scene : SceneValue) (starter : StarterChange) (result : Status)
+    : Type 0 where
   pub end : RunEnd
   pub text : List ℕ
   pub lines : List ℕ
   pub run : IsTextOfRun how world scene starter end text lines
   pub answered : result ≡ answer_by end
 
--- Where nothing is wrong, the answer is that of a run of the scene in the world of its manifests, unless memory was refused.
+-- Where nothing is wrong, the answer is that of a run of the scene in the world of its manifests, unless memory was
+-- refused.
 abbrev pub IsComplete : List (List ℕ) → ShelfChange → StarterChange → SinkChange → SinkChange → Status → Type 0
 IsComplete words shelf starter out err result =
     (fine : NothingIsWrong words shelf out err)

@@ -27,7 +27,8 @@ stalled_unless left name = if left then [] else stalled_line name
 -- the lines of those among these endpoints, numbered from n, whose contexts have not left, in order
 abbrev pub stalled_from : List Entry → ℕ → List SceneEndpoint → List ℕ
 stalled_from past n [] = []
-stalled_from past n (e ∷ endpoints) = stalled_unless (has_left past (numbered n)) e.name ++ stalled_from past (n + 1) endpoints
+stalled_from past n (e ∷ endpoints) = stalled_unless (has_left past (numbered n)) e.name
+    ++ stalled_from past (n + 1) endpoints
 
 abbrev pub spent_line : List ℕ → List ℕ
 spent_line name = codes "wx: spent: " ++ (name ++ codes "\n")

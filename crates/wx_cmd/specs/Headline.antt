@@ -43,7 +43,8 @@ pub record SceneReadFailed (words : List (List ℕ)) (shelf : ShelfChange) (file
   pub one : shelf.after.reads ≡ counted shelf.before.reads
   pub failed : HasReadFailed shelf
 
--- What stands there is a scene that names a manifest of this file, none before it is refused, and a read failed in the call.
+-- What stands there is a scene that names a manifest of this file, none before it is refused, and a read failed in the
+-- call.
 pub record ManifestReadFailed (words : List (List ℕ)) (shelf : ShelfChange) (file : List ℕ) : Type 0 where
   pub scene : SceneValue
   pub accepted : Accepted words shelf scene
@@ -52,15 +53,17 @@ pub record ManifestReadFailed (words : List (List ℕ)) (shelf : ShelfChange) (f
   pub name : file ≡ name_at scene place
 
 -- What stands there is a scene that names a manifest of this file, which is refused so, and none before it.
-pub record ManifestRefused (words : List (List ℕ)) (shelf : ShelfChange) (refusal : FileRefusal) (file : List ℕ) : Type 0 where
+pub record ManifestRefused (words : List (List ℕ)) (shelf : ShelfChange) (refusal : FileRefusal) (file : List ℕ)
+    : Type 0 where
   pub scene : SceneValue
   pub accepted : Accepted words shelf scene
   pub first : IsFirstRefusal shelf.before.files scene refusal
   pub name : file ≡ name_at scene refusal.file
 
--- What stands there is a scene, its manifests make a world, a run of the scene in that world comes to this end, the text is
--- its journal's, which the records of its hosts meet, and the lines tell of the end.
-pub record Ran (words : List (List ℕ)) (shelf : ShelfChange) (starter : StarterChange) (end : RunEnd) (text lines : List ℕ) : Type 0 where
+-- What stands there is a scene, its manifests make a world, a run of the scene in that world comes to this end, the
+-- text is its journal's, which the records of its hosts meet, and the lines tell of the end.
+pub record Ran (words : List (List ℕ)) (shelf : ShelfChange) (starter : StarterChange) (end : RunEnd)
+    (text lines : List ℕ) : Type 0 where
   pub scene : SceneValue
   pub accepted : Accepted words shelf scene
   pub world : WorldLists
@@ -74,7 +77,8 @@ pub record MayHaveRun (words : List (List ℕ)) (shelf : ShelfChange) : Type 0 w
   pub world : WorldLists
   pub manifests : IsWorldOf shelf.before.files scene world
 
--- the cause of each verdict, of which want of memory alone has none; there the starter is unused, unless a run may have begun
+-- the cause of each verdict, of which want of memory alone has none; there the starter is unused, unless a run may
+-- have begun
 abbrev pub Judged : List (List ℕ) → ShelfChange → StarterChange → Verdict → Type 0
 Judged words shelf starter (read_fault file) = SceneReadFailed words shelf file ⊎ ManifestReadFailed words shelf file
 Judged words shelf starter (refused fault) = Refused words shelf fault
@@ -83,14 +87,16 @@ Judged words shelf starter no_memory = IsUnused starter ⊎ MayHaveRun words she
 Judged words shelf starter (ran end text lines) = Ran words shelf starter end text lines
 
 -- A call for a run has a verdict, which has its cause, and tells it; only a run uses the starter.
-pub record RunHeadline (words : List (List ℕ)) (shelf : ShelfChange) (starter : StarterChange) (out err : SinkChange) (result : Status) : Type 0 where
+pub record RunHeadline (words : List (List ℕ)) (shelf : ShelfChange) (starter : StarterChange) (out err : SinkChange)
+    (result : Status) : Type 0 where
   pub verdict : Verdict
   pub judged : Judged words shelf starter verdict
   pub told : Told verdict out err result
   pub unused : IsUnusedUnlessRun verdict starter
 
 -- by the scene that the words name
-abbrev pub HeadlineOf : Option (List ℕ) → List (List ℕ) → ShelfChange → StarterChange → SinkChange → SinkChange → Status → Type 0
+abbrev pub HeadlineOf : Option (List ℕ) → List (List ℕ) → ShelfChange → StarterChange → SinkChange → SinkChange → Status
+    → Type 0
 HeadlineOf (Some name) words shelf starter out err result = RunHeadline words shelf starter out err result
 HeadlineOf None words shelf starter out err result = PlainHeadline words shelf out err result
 
@@ -99,7 +105,8 @@ abbrev pub Headline : List (List ℕ) → ShelfChange → StarterChange → Sink
 Headline words shelf starter out err result = HeadlineOf (scene_named words) words shelf starter out err result
 
 -- A manifest is refused only where it is the first of the scene that is, and then nothing is written on `out`.
-pub record RefusesManifest (words : List (List ℕ)) (shelf : ShelfChange) (out : SinkChange) (file : ℕ) (kind : FileKind) : Type 0 where
+pub record RefusesManifest (words : List (List ℕ)) (shelf : ShelfChange) (out : SinkChange) (file : ℕ) (kind : FileKind)
+    : Type 0 where
   pub scene : SceneValue
   pub accepted : Accepted words shelf scene
   pub first : IsFirstRefusal shelf.before.files scene (record { file = file; kind = kind })

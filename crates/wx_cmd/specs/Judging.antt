@@ -23,15 +23,16 @@ IsRunJudged how world scene starter no_memory = ⊥
 abbrev pub HasWorld : ShelfChange → SceneValue → Type 0
 HasWorld shelf scene = (world : WorldLists) × IsWorldOf shelf.before.files scene world
 
--- a scene comes to the text of a run in the world of its files, to its first refused manifest, to a read of a manifest that
--- failed, or to want of memory, and then the starter is unused unless its files make a world
+-- a scene comes to the text of a run in the world of its files, to its first refused manifest, to a read of a manifest
+-- that failed, or to want of memory, and then the starter is unused unless its files make a world
 abbrev pub SceneComesTo : How → SceneValue → ShelfChange → StarterChange → Verdict → Type 0
 SceneComesTo how scene shelf starter (ran end text lines) =
     (world : WorldLists) × IsWorldOf shelf.before.files scene world × IsTextOfRun how world scene starter end text lines
 SceneComesTo how scene shelf starter (manifest_refused refusal file) =
     IsFirstRefusal shelf.before.files scene refusal × (file ≡ name_at scene refusal.file)
 SceneComesTo how scene shelf starter (read_fault file) =
-    (place : ℕ) × HasFailedAt shelf.before.files scene shelf.before.faults shelf.after.faults place × (file ≡ name_at scene place)
+    (place : ℕ) × HasFailedAt shelf.before.files scene shelf.before.faults shelf.after.faults place
+    × (file ≡ name_at scene place)
 SceneComesTo how scene shelf starter no_memory = IsUnused starter ⊎ HasWorld shelf scene
 SceneComesTo how scene shelf starter (refused fault) = ⊥
 

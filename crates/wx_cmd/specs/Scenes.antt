@@ -30,17 +30,18 @@ scene_of_content absent = Err (refusal Missing)
 scene_of_content too_large = Err (refusal Large)
 scene_of_content (present bytes) = scene_of bytes
 
--- A run of the scene in this world leaves a journal and comes to this end; each host's record meets the journal; the text is
--- that journal's, and of no other that fits, and the lines tell of the end.
+-- A run of the scene in this world leaves a journal and comes to this end; each host's record meets the journal; the
+-- text is that journal's, and of no other that fits, and the lines tell of the end.
 pub record IsTextOfRun (how : How) (world : WorldLists) (scene : SceneValue) (starter : StarterChange) (end : RunEnd)
     (text lines : List ℕ) : Type 0 where
   pub journal : List Entry
   pub run : IsRunOf world scene journal end
   -- where it was to be made in rounds, its entries after the opening fall into rounds
   pub rounds : how ≡ Rounds → IsInRounds scene journal
-  -- the starter took over one record for each host of the journal, in rising number, each meets the journal, and nothing else was
-  -- started
-  pub records : HaveRecords (IsSpent (scripts_of scene) (reverse journal)) world (reverse journal) starter.before starter.after
+  -- the starter took over one record for each host of the journal, in rising number, each meets the journal, and
+  -- nothing else was started
+  pub records : HaveRecords (IsSpent (scripts_of scene) (reverse journal)) world (reverse journal) starter.before
+      starter.after
   pub text_of_run : text ≡ journal_text journal
   -- the journal fits, and no other that fits has this text
   pub fits : JournalFits journal

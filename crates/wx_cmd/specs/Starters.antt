@@ -12,8 +12,8 @@ StarterChange = Change StarterState
 abbrev pub IsUnused : StarterChange → Type 0
 IsUnused starter = starter.after ≡ starter.before
 
--- Unless the verdict is that of a run, the starter is unused. Where memory was refused, the verdict's cause says whether a run may
--- have begun.
+-- Unless the verdict is that of a run, the starter is unused. Where memory was refused, the verdict's cause says
+-- whether a run may have begun.
 abbrev pub IsUnusedUnlessRun : Verdict → StarterChange → Type 0
 IsUnusedUnlessRun (read_fault file) starter = IsUnused starter
 IsUnusedUnlessRun (refused fault) starter = IsUnused starter

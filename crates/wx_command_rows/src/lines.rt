@@ -178,7 +178,8 @@ fn failing(alloc: Global) -> Result<MemorySink, AllocError> {
     Ok(failing)
 }
 
-/// A text that is to be told with the answer no, the answer over two sinks that fail, and how often each was written to.
+/// A text that is to be told with the answer no, the answer over two sinks that fail, and how often each was written
+/// to.
 const TOLD: [(&str, Status, u64); 2] = [("", Status::No, 0), ("no\n", Status::WriteFault, 1)];
 
 /// Where there is nothing to write, a sink that fails does no harm.

@@ -1,4 +1,5 @@
--- The addresses of web pages and of the documents that content scripts stand in, over the URL Standard as the crate `url` states it.
+-- The addresses of web pages and of the documents that content scripts stand in, over the URL Standard as the crate
+-- `url` states it.
 use Rattle.std.specs.Prelude.{ℕ, Bool, false, ◌&&◌, ◌||◌, nat_le, List, length, codes, bytes_eq, Option, Some, None, Ok, Err, if◌then◌else◌}
 use Rattle.std.specs.Option.{option_map_or}
 use Rattle.url.specs.Parts.{Parts, serialize}

@@ -55,14 +55,19 @@ pub record MakesNone {A : Type 0} {as_who : A → Who} (old new : DeskState A as
 
 -- the desk's own entry
 abbrev pub own_entry : {A : Type 0} {as_who : A → Who} → DeskState A as_who → Call → Answer → Seen
-own_entry {A} {as_who} desk call answer = record { own = true; entry = record { who = as_who desk.who; call = call; answer = answer } }
+own_entry {A} {as_who} desk call answer = record {
+  own = true;
+  entry = record
+      { who = as_who desk.who; call = call; answer = answer };
+}
 
 -- the desk with one own entry more
 abbrev pub after_own : {A : Type 0} {as_who : A → Who} → DeskState A as_who → Call → Answer → DeskState A as_who
 after_own desk call answer = record desk { history = own_entry desk call answer ∷ desk.history }
 
 -- This call was made at the desk and answered so: after what came in of others, its own entry stands last.
-pub record MakesOne {A : Type 0} {as_who : A → Who} (old new : DeskState A as_who) (call : Call) (answer : Answer) : Type 0 where
+pub record MakesOne {A : Type 0} {as_who : A → Who} (old new : DeskState A as_who) (call : Call) (answer : Answer)
+    : Type 0 where
   pub between : DeskState A as_who
   pub others : MakesNone old between
   pub made : new ≡ after_own between call answer

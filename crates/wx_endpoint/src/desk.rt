@@ -5,8 +5,8 @@ use wx_machine::{Answer, JsonText};
 
 /// Where an endpoint makes its own calls. A desk tells its endpoint's context, a legal journal, and which of the
 /// entries are the endpoint's own; entries of others may come in at every step. Where memory is refused the endpoint
-/// makes no entry. A desk has a number of steps, of which each call but `left` takes at most one, and needs one unless it
-/// is `stopped`.
+/// makes no entry. A desk has a number of steps, of which each call but `left` takes at most one, and needs one unless
+/// it is `stopped`.
 pub trait Desk: Send {
     ghost use Rattle.std.specs.Prelude.{
       ◌≡◌,
@@ -81,7 +81,8 @@ pub trait Desk: Send {
     fn connect(&mut self, target: Target, name: Utf8Text) -> Result<Answer, Utf8Text>
         requires sound { IsSound (state self.old) }
         requires step { 0 < steps self.old }
-        ensures made { IfOk result (λ answer. MakesOne (state self.old) (state self.new) (Call.Connect target name) answer) }
+        ensures made { IfOk result (λ answer.
+            MakesOne (state self.old) (state self.new) (Call.Connect target name) answer) }
         ensures refused { OnErr result (MakesNone (state self.old) (state self.new)) }
         ensures returned { IfErr result (λ back. back ≡ name) }
         ensures sound { IsSound (state self.new) }
@@ -116,7 +117,8 @@ pub trait Desk: Send {
     fn send(&mut self, target: Target, text: JsonText) -> Result<Answer, JsonText>
         requires sound { IsSound (state self.old) }
         requires step { 0 < steps self.old }
-        ensures made { IfOk result (λ answer. MakesOne (state self.old) (state self.new) (Call.Send target text) answer) }
+        ensures made { IfOk result (λ answer.
+            MakesOne (state self.old) (state self.new) (Call.Send target text) answer) }
         ensures refused { OnErr result (MakesNone (state self.old) (state self.new)) }
         ensures returned { IfErr result (λ back. back ≡ text) }
         ensures sound { IsSound (state self.new) }
@@ -151,7 +153,8 @@ pub trait Desk: Send {
     fn connect_native(&mut self, name: Utf8Text) -> Result<Answer, Utf8Text>
         requires sound { IsSound (state self.old) }
         requires step { 0 < steps self.old }
-        ensures made { IfOk result (λ answer. MakesOne (state self.old) (state self.new) (Call.ConnectNative name) answer) }
+        ensures made { IfOk result (λ answer.
+            MakesOne (state self.old) (state self.new) (Call.ConnectNative name) answer) }
         ensures refused { OnErr result (MakesNone (state self.old) (state self.new)) }
         ensures returned { IfErr result (λ back. back ≡ name) }
         ensures sound { IsSound (state self.new) }
@@ -168,7 +171,8 @@ pub trait Desk: Send {
     ) -> Result<Answer, (Utf8Text, JsonText)>
         requires sound { IsSound (state self.old) }
         requires step { 0 < steps self.old }
-        ensures made { IfOk result (λ answer. MakesOne (state self.old) (state self.new) (Call.SendNative name text) answer) }
+        ensures made { IfOk result (λ answer.
+            MakesOne (state self.old) (state self.new) (Call.SendNative name text) answer) }
         ensures refused { OnErr result (MakesNone (state self.old) (state self.new)) }
         ensures returned { IfErr result (λ back. (back.0 ≡ name) × (back.1 ≡ text)) }
         ensures sound { IsSound (state self.new) }

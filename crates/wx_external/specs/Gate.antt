@@ -1,4 +1,5 @@
--- Who may reach whom (Chrome's "Message passing", "externally_connectable" and "Native messaging"; MDN's "externally_connectable").
+-- Who may reach whom (Chrome's "Message passing", "externally_connectable" and "Native messaging"; MDN's
+-- "externally_connectable").
 use Rattle.std.specs.Prelude.{ℕ, Bool, true, false, not, List, Option, Some, None, Ok, Err, bytes_eq, slice_get, if◌then◌else◌}
 use Rattle.std.specs.Option.{option_map_or}
 use Rattle.url.specs.Parts.{Parts}
@@ -49,13 +50,15 @@ meant caller target = target
 -- one line for each sort of caller and each sort of target
 abbrev pub verdict_of : WorldLists → Context → Target → Verdict
 verdict_of world (Page ext path) Own = Open false
-verdict_of world (Page ext path) (Other id) = if admits_extension (manifest_of world id) ext then Open true else Forbidden Id
+verdict_of world (Page ext path) (Other id) = if admits_extension (manifest_of world id) ext then Open true else
+    Forbidden Id
 verdict_of world (Page ext path) (Tab tab frame) = Open false
 verdict_of world (Content ext tab frame url) Own = Open false
 verdict_of world (Content ext tab frame url) (Other id) = BadTarget
 verdict_of world (Content ext tab frame url) (Tab other within) = BadTarget
 verdict_of world (Web tab frame url) Own = BadTarget
-verdict_of world (Web tab frame url) (Other id) = if admits_page (manifest_of world id) url then Open true else Forbidden Url
+verdict_of world (Web tab frame url) (Other id) = if admits_page (manifest_of world id) url then Open true else
+    Forbidden Url
 verdict_of world (Web tab frame url) (Tab other within) = BadTarget
 
 -- whether a context may reach a target, and if so, whether from outside the target's extension
@@ -69,7 +72,8 @@ admits_caller host ext = option_map_or (λ (found : Host). admits found ext) hos
 -- last: the host of that name is there, and it lets the extension call
 abbrev pub verdict_at : WorldLists → List ℕ → Option ℕ → NativeVerdict
 verdict_at world ext None = native.HostNotFound
-verdict_at world ext (Some place) = if admits_caller (slice_get world.hosts place) ext then native.Open place else native.HostForbidden
+verdict_at world ext (Some place) = if admits_caller (slice_get world.hosts place) ext then native.Open place else
+    native.HostForbidden
 
 -- whether a context may call the native host of that name: the tests in their order
 unfoldable pub native_gate_of : WorldLists → Context → List ℕ → NativeVerdict

@@ -1,4 +1,5 @@
--- Whether a match pattern meets a URL, as a test that computes. The law `match_test` says that it is exactly the match relation.
+-- Whether a match pattern meets a URL, as a test that computes. The law `match_test` says that it is exactly the match
+-- relation.
 use Rattle.std.specs.Prelude.{ℕ, Bool, true, false, ◌&&◌, ◌||◌, ◌==◌, List, [], ◌∷◌, codes, bytes_eq, Option, Some, None, if◌then◌else◌}
 use Rattle.std.specs.List.{list_any}
 use Rattle.url.specs.Ascii.{dot}

@@ -43,7 +43,11 @@ manifest_with native external = record {
 
 -- extension A with this `externally_connectable`, and no host
 abbrev pub world_with : Option Connectable → WorldLists
-world_with external = record { extensions = record { id = id_a; manifest = manifest_with false external } ∷ []; hosts = [] }
+world_with external = record {
+  extensions = record { id = id_a; manifest = manifest_with false external }
+      ∷ [];
+  hosts = [];
+}
 
 abbrev pub connectable : List (List ℕ) → List PatternParts → Option Connectable
 connectable ids patterns = Some (record { ids = ids; patterns = patterns })
@@ -72,8 +76,10 @@ VerdictsByManifest =
 -- what each sort of caller gets whatever the world holds: from a page, from a content script, from a web page
 abbrev pub VerdictsOfAnyWorld : Type 0
 VerdictsOfAnyWorld = (world : WorldLists) (tab : TabId) (frame : Option FrameId) →
-    (gate_of world (page_of id_a) Own ∷ gate_of world (page_of id_a) (Tab tab frame) ∷ [] ≡ Open false ∷ Open false ∷ [])
-    × (gate_of world (script_of id_a) Own ∷ gate_of world (script_of id_a) (Other id_a) ∷ gate_of world (script_of id_a) (Other id_b)
+    (gate_of world (page_of id_a) Own ∷ gate_of world (page_of id_a) (Tab tab frame) ∷ []
+    ≡ Open false ∷ Open false ∷ [])
+    × (gate_of world (script_of id_a) Own ∷ gate_of world (script_of id_a) (Other id_a)
+    ∷ gate_of world (script_of id_a) (Other id_b)
     ∷ gate_of world (script_of id_a) (Tab tab frame) ∷ [] ≡ Open false ∷ Open false ∷ BadTarget ∷ BadTarget ∷ [])
     × (gate_of world (web_page (codes "https://a.b/x")) Own ∷ gate_of world (web_page (codes "https://a.b/x")) (Tab tab frame) ∷ []
     ≡ BadTarget ∷ BadTarget ∷ [])
@@ -81,7 +87,8 @@ VerdictsOfAnyWorld = (world : WorldLists) (tab : TabId) (frame : Option FrameId)
 -- A with the permission and B without; the host `e` lets A in, and `f` lets nobody in
 abbrev pub world_of_hosts : WorldLists
 world_of_hosts = record {
-  extensions = record { id = id_b; manifest = manifest_with false None } ∷ record { id = id_a; manifest = manifest_with true None } ∷ [];
+  extensions = record { id = id_b; manifest = manifest_with false None }
+      ∷ record { id = id_a; manifest = manifest_with true None } ∷ [];
   hosts = record { name = codes "f"; path = codes "/f"; origins = [] }
       ∷ record { name = codes "e"; path = codes "/e"; origins = origin_of id_a ∷ [] } ∷ [];
 }

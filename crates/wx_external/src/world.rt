@@ -1,6 +1,7 @@
 //! The extensions and native hosts that the broker knows.
 ghost use Rattle.wx_external.specs.World as spec;
-ghost use Rattle.std.specs.Prelude.{◌≡◌, ◌↔◌, ◌++◌, ◌∷◌, [], IsTrue, IfErr, OnOk, OnErr, IsErrAnd, option_copied, slice_get};
+ghost use Rattle.std.specs.Prelude.{◌≡◌, ◌↔◌, ◌++◌, ◌∷◌, [], IsTrue, IfErr, OnOk};
+ghost use Rattle.std.specs.Prelude.{OnErr, IsErrAnd, option_copied, slice_get};
 
 use std::alloc::Global;
 use std::marker::Model;

@@ -136,8 +136,8 @@ fn end<D: HostDesk>(desk: &mut D, reason: Reason) -> OutTurn
     }
 }
 
-/// One turn of a host's output: what it writes is read up to the end of a frame, and said; or the host ends, where there
-/// is a cause and every text for it was taken.
+/// One turn of a host's output: what it writes is read up to the end of a frame, and said; or the host ends, where
+/// there is a cause and every text for it was taken.
 pub fn out_turn<D: HostDesk, O: HostOut>(
     desk: &mut D,
     reader: &mut FrameReader,

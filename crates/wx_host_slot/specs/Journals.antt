@@ -48,10 +48,12 @@ IsInPlace h past HostTake = is_host_ready past h ≡ true
 IsInPlace h past (HostEnded reason) = LeavesNoText h past reason
 IsInPlace h past _ = Unit {0}
 
--- a host's program: the path in its manifest, started with the origin of its caller (Chrome's "Native messaging", "Native messaging host")
+-- a host's program: the path in its manifest, started with the origin of its caller (Chrome's "Native messaging",
+-- "Native messaging host")
 abbrev pub program_at : WorldLists → Option HostView → Option Program
 program_at world None = None
-program_at world (Some view) = option_map (λ (host : Host). record { path = host.path; arguments = arguments_of view.caller }) (slice_get world.hosts view.manifest)
+program_at world (Some view) = option_map (λ (host : Host). record
+    { path = host.path; arguments = arguments_of view.caller }) (slice_get world.hosts view.manifest)
 
 -- the program of host h
 abbrev pub program_of : WorldLists → List Entry → HostNo → Option Program

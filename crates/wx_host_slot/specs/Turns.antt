@@ -24,11 +24,14 @@ pub record TakesText (h : HostNo) (before after : List Entry) : Type 0 where
   pub made : after ≡ record { who = ByHost h; call = HostTake; answer = HasText text } ∷ before
 
 -- A host's turn after those of the endpoints: it was still to be started and could not be, and so its end is its first
--- entry; it took what there was to take; it took a text that could not be written, and ended; or there was nothing to take.
+-- entry; it took what there was to take; it took a text that could not be written, and ended; or there was nothing to
+-- take.
 pub data HostTurn (unstarted : Type 0) (h : HostNo) (before after : List Entry) : Type 0 where
-  not_started : unstarted → entries_of h before ≡ 0 → Makes h (HostEnded StartFailed) before after → HostTurn unstarted h before after
+  not_started : unstarted → entries_of h before ≡ 0 → Makes h (HostEnded StartFailed) before after
+      → HostTurn unstarted h before after
   took : is_host_ready before h ≡ true → Makes h HostTake before after → HostTurn unstarted h before after
-  not_written : is_host_ready before h ≡ true → (between : List Entry) → TakesText h before between → Makes h (HostEnded WriteFailed) between after → HostTurn unstarted h before after
+  not_written : is_host_ready before h ≡ true → (between : List Entry) → TakesText h before between
+      → Makes h (HostEnded WriteFailed) between after → HostTurn unstarted h before after
   rested : is_host_ready before h ≡ false → after ≡ before → HostTurn unstarted h before after
 
 -- a host that is heard does not end as its start or a write failed

@@ -1,4 +1,5 @@
-//! The native hosts of a run over one broker: for each a slot, in which its program is started, served, heard and finished.
+//! The native hosts of a run over one broker: for each a slot, in which its program is started, served, heard and
+//! finished.
 #![tactic(auto)]
 
 mod slot;

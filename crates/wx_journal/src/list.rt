@@ -1,5 +1,6 @@
 //! The list of entries, its text, and the reports on its channels and requests.
-ghost use Rattle.std.specs.Prelude.{◌≡◌, List, Ok, ◌+◌, ◌<◌, ◌≤◌, [], ◌∷◌, ◌++◌, length, IfOk, IfErr, OnOk, OnErr, IsOk, slice_get, option_copied, ◌==◌, reverse};
+ghost use Rattle.std.specs.Prelude.{◌≡◌, List, Ok, ◌+◌, ◌<◌, ◌≤◌, [], ◌∷◌, ◌++◌, length, IfOk, IfErr};
+ghost use Rattle.std.specs.Prelude.{OnOk, OnErr, IsOk, slice_get, option_copied, ◌==◌, reverse};
 ghost use Rattle.std.specs.Option.{option_and_then, option_map, IfSome};
 ghost use Rattle.wx_external.specs.World.{WorldLists};
 ghost use Rattle.wx_machine.specs.Answers.{IsLegal};
@@ -36,7 +37,11 @@ impl Model for Journal {
 
     ghost Value = { JournalState };
 
-    ghost view = { λ journal. record { entries = journal.entries.items; spare = vec_capacity journal.entries - vec_len journal.entries } };
+    ghost view = { λ journal. record {
+      entries = journal.entries.items;
+      spare = vec_capacity journal.entries - vec_len
+          journal.entries;
+    } };
 }
 
 /// The JSON text that a call carries.

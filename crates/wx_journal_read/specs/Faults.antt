@@ -16,7 +16,8 @@ pub record IsLongest (bytes : List ℕ) (journal : List Entry) (rest : List ℕ)
   pub fits : JournalFits journal
   pub whole : bytes ≡ journal_text journal ++ rest
   pub behind_it : 0 < length rest
-  pub longest : (other : List Entry) (more : List ℕ) → JournalFits other → bytes ≡ journal_text other ++ more → length (journal_text other) ≤ length (journal_text journal)
+  pub longest : (other : List Entry) (more : List ℕ) → JournalFits other → bytes ≡ journal_text other ++ more
+      → length (journal_text other) ≤ length (journal_text journal)
 
 pub record IsLineFault (bytes : List ℕ) (place : ℕ) : Type 0 where
   pub journal : List Entry
@@ -24,8 +25,8 @@ pub record IsLineFault (bytes : List ℕ) (place : ℕ) : Type 0 where
   pub is_longest : IsLongest bytes journal rest
   pub place_is : place ≡ length (journal_text journal)
 
--- `Head` at 0: the text does not begin with the head line. `Line`: what follows the head line is no run of entry lines, and
--- the place is where the longest run ends
+-- `Head` at 0: the text does not begin with the head line. `Line`: what follows the head line is no run of entry
+-- lines, and the place is where the longest run ends
 abbrev pub IsFaultOf : List ℕ → ℕ → JournalKind → Type 0
 IsFaultOf bytes place Head = (place ≡ 0) × ((rest : List ℕ) → bytes ≡ head ++ rest → ⊥)
 IsFaultOf bytes place Line = IsLineFault bytes place

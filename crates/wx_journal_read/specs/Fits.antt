@@ -42,7 +42,8 @@ TargetFits (Tab tab frame) = (tab.0 < 2 ^ 32) × FrameFits frame
 
 abbrev pub ContextFits : Context → Type 0
 ContextFits (Page ext path) = IsTrue (is_extension_id ext) × IsTrue (is_page_path path)
-ContextFits (Content ext tab frame url) = IsTrue (is_extension_id ext) × ((tab.0 < 2 ^ 32) × ((frame.0 < 2 ^ 32) × IsTrue (is_url url)))
+ContextFits (Content ext tab frame url) = IsTrue (is_extension_id ext)
+    × ((tab.0 < 2 ^ 32) × ((frame.0 < 2 ^ 32) × IsTrue (is_url url)))
 ContextFits (Web tab frame url) = (tab.0 < 2 ^ 32) × ((frame.0 < 2 ^ 32) × IsTrue (is_url url))
 
 abbrev pub ReasonFits : Reason → Type 0

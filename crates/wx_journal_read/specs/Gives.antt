@@ -17,7 +17,8 @@ Gives view (Ok x) read = read ≡ Some (view x)
 Gives view (Err e) read = Fails e read
 
 -- of a whole journal: its entries are seen by `view`
-abbrev pub GivesWhole : {X : Type 0} → (X → List Entry) → Result X JournalReadFault → Result (List Entry) JournalFault → Type 0
+abbrev pub GivesWhole : {X : Type 0} → (X → List Entry) → Result X JournalReadFault → Result (List Entry) JournalFault
+    → Type 0
 GivesWhole view (Ok journal) read = read ≡ Ok (view journal)
 GivesWhole view (Err (reads.Bad fault)) read = read ≡ Err fault
 GivesWhole view (Err reads.NoMemory) read = Unit {0}

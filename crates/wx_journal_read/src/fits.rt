@@ -1,6 +1,7 @@
 //! Values in memory have a text: numbers are within their types, and texts of their sorts.
 ghost use Rattle.std.specs.Prelude.{◌<◌, ◌^◌, IsTrue};
-ghost use Rattle.wx_journal_read.specs.Fits.{is_url, WhoFits, FrameFits, TargetFits, ContextFits, ReasonFits, CallFits, KindFits, AnswerFits, EntryFits, JournalFits};
+ghost use Rattle.wx_journal_read.specs.Fits.{is_url, WhoFits, FrameFits, TargetFits, ContextFits, ReasonFits};
+ghost use Rattle.wx_journal_read.specs.Fits.{CallFits, KindFits, AnswerFits, EntryFits, JournalFits};
 
 use wx_context::{Context, Target, WebUrl};
 use wx_id::{EventKind, FrameId};

@@ -1,4 +1,5 @@
-//! The text of a journal, read back: what reading takes is what is printed, and different journals have different texts.
+//! The text of a journal, read back: what reading takes is what is printed, and different journals have different
+//! texts.
 #![tactic(auto)]
 
 mod answer;

@@ -1,5 +1,6 @@
 //! Worked examples of a journal's text, each the contract of a function that does nothing.
-ghost use Rattle.wx_journal_text.specs.Rows.{OneConnectionOnePostText, FirstReplyWinsText, TabsAndFramesText, FromOutsideText, HostRepliesText, HostEndsText};
+ghost use Rattle.wx_journal_text.specs.Rows.{OneConnectionOnePostText, FirstReplyWinsText, TabsAndFramesText};
+ghost use Rattle.wx_journal_text.specs.Rows.{FromOutsideText, HostRepliesText, HostEndsText};
 
 /// The text of two pages, one connection and one posted number.
 pub fn one_connection_one_post_text()

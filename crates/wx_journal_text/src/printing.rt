@@ -1,6 +1,9 @@
 //! The journal's text: a head line, and a line for each entry.
 ghost use Rattle.std.specs.Prelude.{◌≡◌, ◌++◌, IsTrue, OnOk, IfOk, decimal, codes};
-ghost use Rattle.wx_journal_text.specs.Text.{◌␣◌, event_text, sized, numbered, who_text, rule_text, answer_text, listens_text, frame_text, target_text, context_text, flag, json_kind_text, reason_text, is_native, call_text, entry_text, journal_text};
+ghost use Rattle.wx_journal_text.specs.Text.{◌␣◌, event_text, sized, numbered, who_text, rule_text, answer_text};
+ghost use Rattle.wx_journal_text.specs.Text.{listens_text, frame_text, target_text, context_text, flag};
+ghost use Rattle.wx_journal_text.specs.Text.{json_kind_text, reason_text, is_native, call_text, entry_text};
+ghost use Rattle.wx_journal_text.specs.Text.{journal_text};
 
 use itoa::Buffer;
 use std::alloc::{AllocError, Global};

@@ -42,11 +42,13 @@ exponent_action c = cond (is_e c) (goes e) (end_action c)
 unfoldable pub action_of : Mode → ℕ → Action
 action_of value c = cond (is_white c) (goes value) (begin_action c)
 action_of array_start c = cond (is_white c) (goes array_start) (cond (c == 0x5D) closes_empty (begin_action c))
-action_of object_start c = cond (is_white c) (goes object_start) (cond (c == 0x7D) closes_empty (cond (c == 0x22) (goes (text true)) fails))
+action_of object_start c = cond (is_white c) (goes object_start)
+    (cond (c == 0x7D) closes_empty (cond (c == 0x22) (goes (text true)) fails))
 action_of key c = cond (is_white c) (goes key) (cond (c == 0x22) (goes (text true)) fails)
 action_of colon c = cond (is_white c) (goes colon) (cond (c == 0x3A) (goes value) fails)
 action_of after c = end_action c
-action_of (text k) c = cond (is_unescaped c) (goes (text k)) (cond (c == 0x22) (goes (follow k)) (cond (c == 0x5C) (goes (escape k)) fails))
+action_of (text k) c = cond (is_unescaped c) (goes (text k))
+    (cond (c == 0x22) (goes (follow k)) (cond (c == 0x5C) (goes (escape k)) fails))
 action_of (escape k) c = cond (is_escape c) (goes (text k)) (cond (c == 0x75) (goes (hex 3 k)) fails)
 action_of (hex zero k) c = cond (is_hex c) (goes (text k)) fails
 action_of (hex (suc m) k) c = cond (is_hex c) (goes (hex m k)) fails

@@ -9,8 +9,8 @@ use Rattle.wx_json.specs.Coding.{whole, wants, broken}
 use Rattle.wx_json.specs.declared.JsonKind.TheVariants.{Syntax, Utf8, TooDeep}
 use Rattle.wx_json.specs.declared.JsonFault.{JsonFault}
 
--- How far it is: how many bytes it has taken, where both automata stand, how many levels may still be opened, and the open
--- containers, the innermost first; or the fault that it found.
+-- How far it is: how many bytes it has taken, where both automata stand, how many levels may still be opened, and the
+-- open containers, the innermost first; or the fault that it found.
 pub data Progress : Type 0 where
   running : ℕ → Coding → Mode → ℕ → List Bool → Progress
   failed : JsonFault → Progress

@@ -2,8 +2,8 @@
 use Rattle.std.specs.Prelude.{ℕ, zero, suc, List, [], ◌∷◌, cond}
 use Rattle.wx_json.specs.Json.{is_between}
 
--- Between two characters; or inside one, where the next byte is to lie from the first number to the second and so many follow it;
--- or after a byte that no UTF-8 text has there.
+-- Between two characters; or inside one, where the next byte is to lie from the first number to the second and so many
+-- follow it; or after a byte that no UTF-8 text has there.
 pub data Coding : Type 0 where
   whole : Coding
   wants : ℕ → ℕ → ℕ → Coding

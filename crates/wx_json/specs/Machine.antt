@@ -1,11 +1,12 @@
--- The automaton over RFC 8259's grammar. It knows nothing of UTF-8. No contract cites it but through Stands of specs/Check.antt.
+-- The automaton over RFC 8259's grammar. It knows nothing of UTF-8. No contract cites it but through Stands of
+-- specs/Check.antt.
 use Rattle.std.specs.Prelude.{ℕ, zero, suc, List, [], ◌∷◌, Bool, true, false, ◌==◌, cond}
 use Rattle.wx_json.specs.Json.{is_white, is_digit, is_digit1-9, is_e, is_sign, is_unescaped, is_escape, is_hex}
 use Rattle.wx_json.specs.Mode.{Mode}
 use Rattle.wx_json.specs.Mode.{value, array_start, object_start, key, colon, after, text, escape, hex, minus, zero_digit, digits, point, decimals, e, e_sign, power, t1, t2, t3, f1, f2, f3, f4, n1, n2, n3}
 
--- A place has its mode, how many levels may still be opened, and the open containers, the innermost first (true is an object).
--- A text that has failed says whether it was too deep.
+-- A place has its mode, how many levels may still be opened, and the open containers, the innermost first (true is an
+-- object). A text that has failed says whether it was too deep.
 pub data State : Type 0 where
   dead : Bool → State
   at : Mode → ℕ → List Bool → State
@@ -65,11 +66,13 @@ follow false = after
 unfoldable pub next : Mode → ℕ → List Bool → ℕ → State
 next value n σ c = cond (is_white c) (at value n σ) (begin n σ c)
 next array_start n σ c = cond (is_white c) (at array_start n σ) (cond (c == 0x5D) (pop n σ) (begin n σ c))
-next object_start n σ c = cond (is_white c) (at object_start n σ) (cond (c == 0x7D) (pop n σ) (cond (c == 0x22) (at (text true) n σ) (dead false)))
+next object_start n σ c = cond (is_white c) (at object_start n σ)
+    (cond (c == 0x7D) (pop n σ) (cond (c == 0x22) (at (text true) n σ) (dead false)))
 next key n σ c = cond (is_white c) (at key n σ) (cond (c == 0x22) (at (text true) n σ) (dead false))
 next colon n σ c = cond (is_white c) (at colon n σ) (cond (c == 0x3A) (at value n σ) (dead false))
 next after n σ c = end n σ c
-next (text k) n σ c = cond (is_unescaped c) (at (text k) n σ) (cond (c == 0x22) (at (follow k) n σ) (cond (c == 0x5C) (at (escape k) n σ) (dead false)))
+next (text k) n σ c = cond (is_unescaped c) (at (text k) n σ)
+    (cond (c == 0x22) (at (follow k) n σ) (cond (c == 0x5C) (at (escape k) n σ) (dead false)))
 next (escape k) n σ c = cond (is_escape c) (at (text k) n σ) (cond (c == 0x75) (at (hex 3 k) n σ) (dead false))
 next (hex zero k) n σ c = cond (is_hex c) (at (text k) n σ) (dead false)
 next (hex (suc m) k) n σ c = cond (is_hex c) (at (hex m k) n σ) (dead false)

@@ -15,10 +15,14 @@ is_state s = is_between 0x41 0x5A s || is_between 0x62 0x7A s
 -- the modes of @ to O, P to _, ` to o and p to DEL (what is no state has the mode value)
 abbrev pub modes : List Mode
 modes =
-    value ∷ array_start ∷ escape true ∷ colon ∷ text true ∷ text true ∷ text true ∷ text true ∷ hex 3 true ∷ hex 2 true ∷ hex 1 true ∷ hex 0 true ∷ f1 ∷ f2 ∷ key ∷ object_start ∷
-    t1 ∷ t2 ∷ t3 ∷ text true ∷ text true ∷ text true ∷ text true ∷ value ∷ f3 ∷ f4 ∷ after ∷ value ∷ value ∷ value ∷ value ∷ value ∷
-    value ∷ value ∷ escape false ∷ decimals ∷ text false ∷ text false ∷ text false ∷ text false ∷ hex 3 false ∷ hex 2 false ∷ hex 1 false ∷ hex 0 false ∷ n1 ∷ minus ∷ digits ∷ value ∷
-    point ∷ n2 ∷ n3 ∷ text false ∷ text false ∷ text false ∷ text false ∷ power ∷ e ∷ e_sign ∷ zero_digit ∷ value ∷ value ∷ value ∷ value ∷ value ∷ []
+    value ∷ array_start ∷ escape true ∷ colon ∷ text true ∷ text true ∷ text true ∷ text true ∷ hex 3 true ∷ hex 2 true
+    ∷ hex 1 true ∷ hex 0 true ∷ f1 ∷ f2 ∷ key ∷ object_start ∷
+    t1 ∷ t2 ∷ t3 ∷ text true ∷ text true ∷ text true ∷ text true ∷ value ∷ f3 ∷ f4 ∷ after ∷ value ∷ value ∷ value
+    ∷ value ∷ value ∷
+    value ∷ value ∷ escape false ∷ decimals ∷ text false ∷ text false ∷ text false ∷ text false ∷ hex 3 false
+    ∷ hex 2 false ∷ hex 1 false ∷ hex 0 false ∷ n1 ∷ minus ∷ digits ∷ value ∷
+    point ∷ n2 ∷ n3 ∷ text false ∷ text false ∷ text false ∷ text false ∷ power ∷ e ∷ e_sign ∷ zero_digit ∷ value
+    ∷ value ∷ value ∷ value ∷ value ∷ []
 
 unfoldable pub mode_of : ℕ → Mode
 mode_of s = get_or modes (s - 0x40) value
@@ -105,18 +109,21 @@ entered x p =
 
 -- the state to which an entry leads from a state, if it asks for no more than that, or 0
 abbrev pub next_of : ℕ → ℕ → ℕ → ℕ
-next_of x s after_comma = cond (x == 0x2B) 0x73 (cond (x == 0x2A) 0x53 (cond (x == 0x3D) s (cond (x == 0x2C) after_comma 0)))
+next_of x s after_comma = cond (x == 0x2B) 0x73 (cond (x == 0x2A) 0x53
+    (cond (x == 0x3D) s (cond (x == 0x2C) after_comma 0)))
 
 -- These bytes, so many, lead from one state to another, with these containers open; with any.
 abbrev pub LeadsAt : List Bool → ℕ → ℕ → List ℕ → ℕ → Type 0
-LeadsAt σ from to bytes count = (k n : ℕ) → advances (running k (coding_of from) (mode_of from) n σ) bytes ≡ running (k + count) (coding_of to) (mode_of to) n σ
+LeadsAt σ from to bytes count = (k n : ℕ) → advances (running k (coding_of from) (mode_of from) n σ) bytes
+    ≡ running (k + count) (coding_of to) (mode_of to) n σ
 
 abbrev pub Leads : ℕ → ℕ → List ℕ → ℕ → Type 0
 Leads from to bytes count = (σ : List Bool) → LeadsAt σ from to bytes count
 
 -- At this state an entry does what the byte does.
 abbrev pub Asks : ℕ → ℕ → ℕ → Type 0
-Asks x s c = (k n : ℕ) (σ : List Bool) → entered x (running k (coding_of s) (mode_of s) n σ) ≡ advance (running k (coding_of s) (mode_of s) n σ) c
+Asks x s c = (k n : ℕ) (σ : List Bool) → entered x (running k (coding_of s) (mode_of s) n σ)
+    ≡ advance (running k (coding_of s) (mode_of s) n σ) c
 
 -- Where this is a state, it is that after a comma with these containers open.
 abbrev pub CommaLeads : ℕ → List Bool → Type 0

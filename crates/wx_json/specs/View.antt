@@ -12,7 +12,8 @@ unless_failed (Some f) p = failed f
 
 -- Room is counted down from 1,024 levels.
 abbrev pub progress_of : Inside → Progress
-progress_of a = unless_failed a.fault (running a.taken (coding_of a.state) (mode_of a.state) (1024 - a.depth) (kinds_of a.kinds a.depth))
+progress_of a = unless_failed a.fault (running a.taken (coding_of a.state) (mode_of a.state) (1024 - a.depth)
+    (kinds_of a.kinds a.depth))
 
 pub record IsSound (a : Inside) : Type 0 where
   pub state : is_state a.state ≡ true

@@ -1,7 +1,9 @@
 //! The check of a JSON text that comes in pieces.
-ghost use Rattle.std.specs.Prelude.{◌≡◌, ℕ, ◌+◌, ◌*◌, ◌-◌, ◌^◌, ◌<◌, ◌≤◌, ◌++◌, Bool, true, length, List, [], MatchResult, take, drop, get_or};
+ghost use Rattle.std.specs.Prelude.{◌≡◌, ℕ, ◌+◌, ◌*◌, ◌-◌, ◌^◌, ◌<◌, ◌≤◌, ◌++◌, Bool, true};
+ghost use Rattle.std.specs.Prelude.{length, List, [], MatchResult, take, drop, get_or};
 ghost use Rattle.wx_json.specs.Text.{IsJsonText, IsPrefixOfJson, IsFault, IsEndFault};
-ghost use Rattle.wx_json.specs.States.{is_state, is_end, CommaLeads, coding_of, entered, went, opened, closed_empty, closed, separated, refused};
+ghost use Rattle.wx_json.specs.States.{is_state, is_end, CommaLeads, coding_of, entered, went};
+ghost use Rattle.wx_json.specs.States.{opened, closed_empty, closed, separated, refused};
 ghost use Rattle.wx_json.specs.Levels.{kinds_of};
 ghost use Rattle.wx_json.specs.Coding.{whole};
 ghost use Rattle.wx_json.specs.Check.{Stands, taken, advance, advances, IsRunning, failed};

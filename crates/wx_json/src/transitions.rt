@@ -19,7 +19,8 @@
 //! | `x` `y` `w` | after an exponent's E; its sign; its digits |
 //! | `P` `Q` `R`, `L` `M` `X` `Y`, `l` `q` `r` | after so many letters of `true`, `false`, `null` |
 ghost use Rattle.std.specs.Prelude.{◌≡◌, ◌≤◌, ◌-◌, ◌<◌, ℕ, List, Bool, true, length, take, drop, get_or};
-ghost use Rattle.wx_json.specs.States.{is_state, is_in_string, is_between_tokens, is_in_digits, mode_of, coding_of, entered, next_of, Leads, LeadsAt, Asks, CommaLeads};
+ghost use Rattle.wx_json.specs.States.{is_state, is_in_string, is_between_tokens, is_in_digits, mode_of};
+ghost use Rattle.wx_json.specs.States.{coding_of, entered, next_of, Leads, LeadsAt, Asks, CommaLeads};
 ghost use Rattle.wx_json.specs.Check.{running, advance};
 
 use crate::runs::{digits_end, plain_end, white_end};

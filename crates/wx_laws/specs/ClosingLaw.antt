@@ -30,17 +30,20 @@ abbrev pub is_disconnected : ℕ → EventKind → Bool
 is_disconnected k (Disconnected j) = j.0 == k
 is_disconnected k _ = false
 
--- that channel k is disconnected is told by the entry that closes it alone: once to each end on the other side than the caller that lives, and to nobody else
+-- that channel k is disconnected is told by the entry that closes it alone: once to each end on the other side than
+-- the caller that lives, and to nobody else
 abbrev pub TellsTheOtherSide : Type 0
 TellsTheOtherSide =
     (world : WorldLists) (past : List Entry) (e : Entry) (c : ContextNo) (k : ℕ) → IsLegalPast world (e ∷ past)
     → filter (is_disconnected k) (tells past e c)
-    ≡ on (closes past e k && (are_across (side_of (channel past k) e.who) (end_in (channel past k) c) && is_live past c)) (Disconnected (record { 0 = k }))
+    ≡ on (closes past e k && (are_across (side_of (channel past k) e.who) (end_in (channel past k) c)
+    && is_live past c)) (Disconnected (record { 0 = k }))
 
 -- once a channel is closed nothing more is told of it
 abbrev pub TellsNoMore : Type 0
 TellsNoMore =
-    (world : WorldLists) (past : List Entry) (e : Entry) (c : ContextNo) (k : ℕ) → IsLegalPast world (e ∷ past) → is_closed past k ≡ true
+    (world : WorldLists) (past : List Entry) (e : Entry) (c : ContextNo) (k : ℕ) → IsLegalPast world (e ∷ past)
+    → is_closed past k ≡ true
     → filter (is_of k) (tells past e c) ≡ []
 
 abbrev pub disconnects : ℕ → Call → Answer → Bool
@@ -64,7 +67,8 @@ is_not_in events event = not (list_any (λ t. same_event t event) events)
 abbrev pub untaken : List Entry → ContextNo → List Event
 untaken past c = filter (is_not_in (taken past c)) (queued past c)
 
--- what was delivered on a channel and not taken is pending, whether the channel is closed or not, for each context that did not itself disconnect it
+-- what was delivered on a channel and not taken is pending, whether the channel is closed or not, for each context
+-- that did not itself disconnect it
 abbrev pub StaysPending : Type 0
 StaysPending =
     (past : List Entry) (c : ContextNo) (k : ℕ) → has_disconnected past c k ≡ false
@@ -73,5 +77,7 @@ StaysPending =
 -- after the closing of a channel what is pending of it for a context stays so, but for what that context takes
 abbrev pub StaysBehindClosing : Type 0
 StaysBehindClosing =
-    (world : WorldLists) (past : List Entry) (e : Entry) (c : ContextNo) (k : ℕ) → IsLegalPast world (e ∷ past) → is_closed past k ≡ true
-    → of_channel k (pending (e ∷ past) c) ≡ filter (is_not_in (event_in e.call e.answer (is_by e.who c))) (of_channel k (pending past c))
+    (world : WorldLists) (past : List Entry) (e : Entry) (c : ContextNo) (k : ℕ) → IsLegalPast world (e ∷ past)
+    → is_closed past k ≡ true
+    → of_channel k (pending (e ∷ past) c) ≡ filter (is_not_in (event_in e.call e.answer (is_by e.who c)))
+    (of_channel k (pending past c))

@@ -5,6 +5,7 @@ use Rattle.wx_machine.specs.Each.{EachAfter}
 use Rattle.wx_machine.specs.Answers.{FollowsMachine}
 use Rattle.wx_machine.specs.declared.entries.Entry.{Entry}
 
--- A past, newest entry first, in which each entry follows the machine. A journal is legal exactly where its reverse is a legal past.
+-- A past, newest entry first, in which each entry follows the machine. A journal is legal exactly where its reverse is
+-- a legal past.
 abbrev pub IsLegalPast : WorldLists → List Entry → Type 0
 IsLegalPast world past = EachAfter (FollowsMachine world) past

@@ -41,7 +41,8 @@ abbrev pub is_opening : End → Bool
 is_opening Opener = true
 is_opening _ = false
 
--- a call gives a text on channel k to who stands at this end: a post of the other side, or for the opener what the channel's host said
+-- a call gives a text on channel k to who stands at this end: a post of the other side, or for the opener what the
+-- channel's host said
 abbrev pub gives : List Entry → ℕ → End → Who → Call → Answer → Bool
 gives past k end who (Post j text) Posted = (j.0 == k) && are_across (side_of (channel past k) who) end
 gives past k end (ByHost h) (HostSaid text) Passed = is_for_channel k (work_of past h) && is_opening end
@@ -50,9 +51,11 @@ gives past k end _ _ _ = false
 -- the entries that give one
 abbrev pub given : List Entry → ℕ → End → List EntryNo
 given [] k end = []
-given (e ∷ past) k end = given past k end ++ cond (gives past k end e.who e.call e.answer) (record { 0 = length past } ∷ []) []
+given (e ∷ past) k end = given past k end ++ cond (gives past k end e.who e.call e.answer)
+    (record { 0 = length past } ∷ []) []
 
--- the messages that a context took on a channel are the first of those that the other side gave: none is skipped, and none is taken twice
+-- the messages that a context took on a channel are the first of those that the other side gave: none is skipped, and
+-- none is taken twice
 abbrev pub TakesInOrder : Type 0
 TakesInOrder =
     (world : WorldLists) (past : List Entry) (c : ContextNo) (k : ℕ) → IsLegalPast world past
@@ -65,7 +68,8 @@ texts past ns = map (text_of past) ns
 -- the texts so given
 abbrev pub given_texts : List Entry → ℕ → End → List (List ℕ)
 given_texts [] k end = []
-given_texts (e ∷ past) k end = given_texts past k end ++ cond (gives past k end e.who e.call e.answer) (option_to_list (text_in e.call)) []
+given_texts (e ∷ past) k end = given_texts past k end ++ cond (gives past k end e.who e.call e.answer)
+    (option_to_list (text_in e.call)) []
 
 -- so are their texts
 abbrev pub TakesTextsInOrder : Type 0

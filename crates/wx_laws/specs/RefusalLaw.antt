@@ -32,12 +32,15 @@ abbrev pub is_nobody : List ContextNo → Bool
 is_nobody [] = true
 is_nobody (c ∷ cs) = false
 
--- a connect of a live context is refused exactly where the gate says that the target is bad or forbidden, or the target reaches nobody
+-- a connect of a live context is refused exactly where the gate says that the target is bad or forbidden, or the
+-- target reaches nobody
 abbrev pub RefusesConnects : Type 0
 RefusesConnects =
     (world : WorldLists) (past : List Entry) (c : ContextNo) (target : Target) (name : List ℕ) (answer : Answer)
-    → IsLegalPast world (record { who = ByContext c; call = Connect target name; answer = answer } ∷ past) → is_live past c ≡ true
-    → is_refusal answer ≡ (is_bad_or_forbidden (gate_for world (context_of past c) target) || is_nobody (receivers_of past c target Connection))
+    → IsLegalPast world (record { who = ByContext c; call = Connect target name; answer = answer } ∷ past)
+    → is_live past c ≡ true
+    → is_refusal answer ≡ (is_bad_or_forbidden (gate_for world (context_of past c) target)
+    || is_nobody (receivers_of past c target Connection))
 
 -- the native gate is open
 abbrev pub is_open : NativeVerdict → Bool
@@ -48,5 +51,6 @@ is_open _ = false
 abbrev pub RefusesNativeConnects : Type 0
 RefusesNativeConnects =
     (world : WorldLists) (past : List Entry) (c : ContextNo) (name : List ℕ) (answer : Answer)
-    → IsLegalPast world (record { who = ByContext c; call = ConnectNative name; answer = answer } ∷ past) → is_live past c ≡ true
+    → IsLegalPast world (record { who = ByContext c; call = ConnectNative name; answer = answer } ∷ past)
+    → is_live past c ≡ true
     → is_refusal answer ≡ not (is_open (native_gate_for world (context_of past c) name))

@@ -56,9 +56,11 @@ TellsOneOutcome =
     (world : WorldLists) (past : List Entry) (c : ContextNo) (r : ℕ) → IsLegalPast world past
     → IsPrefix (map (λ event. event.entry.0) (outcomes past c r)) (option_to_list (settled_at past r))
 
--- entry e leaves request r, which has these parties, without a reply: a decline or leave of a receiver after which every receiver has declined or left, or the end of its host
+-- entry e leaves request r, which has these parties, without a reply: a decline or leave of a receiver after which
+-- every receiver has declined or left, or the end of its host
 abbrev pub closes_by : List Entry → Entry → ℕ → Option Parties → Who → Call → Bool
-closes_by past e r parties (ByContext c) (Decline j) = (j.0 == r) && is_asked parties c && is_live past c && not (has_open (e ∷ past) r parties)
+closes_by past e r parties (ByContext c) (Decline j) = (j.0 == r) && is_asked parties c && is_live past c
+    && not (has_open (e ∷ past) r parties)
 closes_by past e r parties (ByContext c) Leave = is_asked parties c && not (has_open (e ∷ past) r parties)
 closes_by past e r parties (ByHost h) (HostEnded reason) = is_for_request r (work_of past h)
 closes_by past e r parties _ _ = false
@@ -67,7 +69,8 @@ closes_by past e r parties _ _ = false
 abbrev pub closes_request : List Entry → Entry → ℕ → Bool
 closes_request past e r = not (is_settled past r) && closes_by past e r (request past r) e.who e.call
 
--- of the outcome of request r an entry tells the asker alone: that it was replied to, where it answers the request, and that it is closed, where it leaves it without a reply
+-- of the outcome of request r an entry tells the asker alone: that it was replied to, where it answers the request,
+-- and that it is closed, where it leaves it without a reply
 abbrev pub TellsTheAsker : Type 0
 TellsTheAsker =
     (past : List Entry) (e : Entry) (c : ContextNo) (r : ℕ)

@@ -1,5 +1,5 @@
-//! The laws of messaging, each the contract of a function that does nothing. They stand on the definitions of the machine
-//! alone, and hold of every legal journal, whatever made it.
+//! The laws of messaging, each the contract of a function that does nothing. They stand on the definitions of the
+//! machine alone, and hold of every legal journal, whatever made it.
 ghost use Rattle.wx_laws.specs.Earlier.{EarlierIsLegal};
 ghost use Rattle.wx_laws.specs.RefusalLaw.{RefusesConnects, RefusesNativeConnects};
 ghost use Rattle.wx_laws.specs.SettlementLaw.{AnswersOnce, TellsOneOutcome, TellsTheAsker};

@@ -1,8 +1,10 @@
--- Lists that grow by what an entry may bring.
+-- Lists that grow by what an entry may bring, and what comes of an entry or of those before it.
 use Rattle.std.proofs.Common.{◌≡◌, ℕ, suc, zero, List, [], ◌∷◌, ◌++◌, length, cond, refl, sym}
-use Rattle.std.specs.Prelude.{Bool, true, false, ◌==◌, Option, Some, None, slice_get, option_to_list}
+use Rattle.std.specs.Prelude.{Bool, true, false, ◌==◌, ◌||◌, Option, Some, None, slice_get, option_to_list}
 use Rattle.std.specs.Option.{option_or}
 use Rattle.std.proofs.Math.Dec.{eqb-suc-suc, eqb-zero-suc}
+use Rattle.wx_context.specs.declared.contexts.Context.{Context}
+use Rattle.wx_machine.specs.Contexts.{is_there}
 
 same_none : {X : Type 0} (b : Bool) → cond {A = Option X} b None None ≡ None
 same_none true = refl
@@ -16,3 +18,8 @@ get_options [] (Some x) zero = refl
 get_options [] (Some x) (suc k) = rw (eqb-zero-suc k) refl
 get_options (y ∷ xs) o zero = refl
 get_options (y ∷ xs) o (suc k) = rw (eqb-suc-suc (length xs) k) (get_options xs o k)
+
+-- one of two brings a context
+pub there_or : (o p : Option Context) → is_there (option_or o p) ≡ (is_there o || is_there p)
+there_or None p = refl
+there_or (Some x) p = refl

@@ -92,18 +92,24 @@ answer_to world past c (Enter x) = Entered (record { 0 = contexts past })
 answer_to world past c (Listen l) = Done
 answer_to world past c Leave = Done
 answer_to world past c (Connect target name) =
-    where_open (gate_for world (context_of past c) target) (where_heard (receivers_of past c target Connection) (OnChannel (record { 0 = length (channels past) })))
-answer_to world past c (Post k text) = at_end (end_in (channel past k.0) c) (is_closed past k.0) PortClosed (where_short text Posted)
+    where_open (gate_for world (context_of past c) target)
+    (where_heard (receivers_of past c target Connection) (OnChannel (record { 0 = length (channels past) })))
+answer_to world past c (Post k text) = at_end (end_in (channel past k.0) c) (is_closed past k.0) PortClosed
+    (where_short text Posted)
 answer_to world past c (Disconnect k) = at_end (end_in (channel past k.0) c) (is_closed past k.0) NoEffect Done
 answer_to world past c (Send target text) =
-    where_open (gate_for world (context_of past c) target) (where_heard (receivers_of past c target Message) (where_short text (OnRequest (record { 0 = length (requests past) }))))
-answer_to world past c (Reply r text) = on_request (is_asked (request past r.0) c) (is_late past r.0 c) (where_short text First)
+    where_open (gate_for world (context_of past c) target)
+    (where_heard (receivers_of past c target Message) (where_short text
+    (OnRequest (record { 0 = length (requests past) }))))
+answer_to world past c (Reply r text) = on_request (is_asked (request past r.0) c) (is_late past r.0 c)
+    (where_short text First)
 answer_to world past c (Decline r) = on_request (is_asked (request past r.0) c) (is_late past r.0 c) Done
 answer_to world past c Take = told_or_empty (first (pending past c))
 answer_to world past c (ConnectNative name) =
     where_native (native_gate_for world (context_of past c) name) (OnChannel (record { 0 = length (channels past) }))
 answer_to world past c (SendNative name text) =
-    where_native (native_gate_for world (context_of past c) name) (where_short text (OnRequest (record { 0 = length (requests past) })))
+    where_native (native_gate_for world (context_of past c) name)
+    (where_short text (OnRequest (record { 0 = length (requests past) })))
 answer_to world past c _ = Gone
 
 -- the next text for a host, or else that none comes any more, or that none is there yet
@@ -156,8 +162,8 @@ abbrev pub is_short_said : Call → Bool
 is_short_said (HostSaid text) = nat_le (length text) LONGEST_SAID
 is_short_said _ = true
 
--- who may make a call: a context whose number was given out, and for an enter the next number; or a host that was started. A host makes
--- the calls of hosts alone and says no more than it may, and a context makes all others.
+-- who may make a call: a context whose number was given out, and for an enter the next number; or a host that was
+-- started. A host makes the calls of hosts alone and says no more than it may, and a context makes all others.
 abbrev pub may_make : List Entry → Who → Call → Bool
 may_make past (ByContext c) (Enter x) = c.0 == contexts past
 may_make past (ByContext c) call = not (is_of_host call) && nat_lt c.0 (contexts past)
@@ -179,4 +185,5 @@ IsLegal world journal = EachAfter (FollowsMachine world) (reverse journal)
 -- the past that calls make, one after another
 abbrev pub made_of : WorldLists → List (Who × Call) → List Entry → List Entry
 made_of world [] past = past
-made_of world (c ∷ calls) past = made_of world calls (record { who = c.0; call = c.1; answer = answer_after world past c.0 c.1 } ∷ past)
+made_of world (c ∷ calls) past = made_of world calls (record
+    { who = c.0; call = c.1; answer = answer_after world past c.0 c.1 } ∷ past)

@@ -19,9 +19,11 @@ pub record Ends : Type 0 where
   pub opener : ContextNo
   pub receivers : List ContextNo
 
--- A connect that was answered with a channel opens one, from its caller to those that its target reaches, or to the host that it starts.
+-- A connect that was answered with a channel opens one, from its caller to those that its target reaches, or to the
+-- host that it starts.
 abbrev pub opened_by : List Entry → Who → Call → Answer → Option Ends
-opened_by past (ByContext c) (Connect target name) (OnChannel k) = Some (record { opener = c; receivers = receivers_of past c target Connection })
+opened_by past (ByContext c) (Connect target name) (OnChannel k) = Some
+    (record { opener = c; receivers = receivers_of past c target Connection })
 opened_by past (ByContext c) (ConnectNative name) (OnChannel k) = Some (record { opener = c; receivers = [] })
 opened_by past _ _ _ = None
 

@@ -22,7 +22,8 @@ abbrev pub is_one : End → Bool
 is_one Neither = false
 is_one _ = true
 
--- whether an end's leave closes the channel, given whether a receiver still lives: the opener's does, and the last receiver's
+-- whether an end's leave closes the channel, given whether a receiver still lives: the opener's does, and the last
+-- receiver's
 abbrev pub leaving : End → Bool → Bool
 leaving Opener live = true
 leaving Receiver live = not live

@@ -1,5 +1,6 @@
 -- Which contexts came in, which of them live, what they listen to, and whom a target reaches.
--- A journal is asked newest entry first: `past` has the newest entry at its head, so that the tail of `e ∷ past` is what stood before e.
+-- A journal is asked newest entry first: `past` has the newest entry at its head, so that the tail of `e ∷ past` is
+-- what stood before e.
 use Rattle.std.specs.Prelude.{ℕ, ◌+◌, List, [], ◌∷◌, ◌++◌, Bool, true, false, not, ◌&&◌, ◌||◌, cond, Option, Some, None, filter, bytes_eq, ◌==◌}
 use Rattle.std.specs.Option.{option_or}
 pub use Rattle.wx_id.specs.Contexts.{same_context}
@@ -118,7 +119,8 @@ abbrev pub is_script_in : Option (List ℕ) → TabId → Option FrameId → Con
 is_script_in own t f (Content ext tab frame url) = is_extension own ext && t.0 == tab.0 && is_frame f frame
 is_script_in own t f _ = false
 
--- whether a target of a caller from that extension names a context: pages of its own extension, pages of another, or its own content scripts in a tab
+-- whether a target of a caller from that extension names a context: pages of its own extension, pages of another, or
+-- its own content scripts in a tab
 abbrev pub names : Option (List ℕ) → Target → Context → Bool
 names own Own y = is_page_of own y
 names own (Other id) y = is_page_of (Some id) y
@@ -143,10 +145,12 @@ abbrev pub reaches_from : Option Context → Target → Sort → Option Context 
 reaches_from (Some x) target sort (Some y) l = reaches (extension_of x) (meant x target) sort y l
 reaches_from _ target sort _ l = false
 
--- whether context d is a receiver of what context c sends to a target (WebExtensions "runtime.connect" and "runtime.sendMessage")
+-- whether context d is a receiver of what context c sends to a target (WebExtensions "runtime.connect" and
+-- "runtime.sendMessage")
 abbrev pub is_receiver : List Entry → ContextNo → Target → Sort → ContextNo → Bool
 is_receiver past c target sort d =
-    not (same_context d c) && is_live past d && reaches_from (context_of past c) target sort (context_of past d) (listens_of past d)
+    not (same_context d c) && is_live past d && reaches_from (context_of past c) target sort (context_of past d)
+    (listens_of past d)
 
 -- the receivers of what context c sends to a target, in rising number
 abbrev pub receivers_of : List Entry → ContextNo → Target → Sort → List ContextNo

@@ -68,14 +68,16 @@ message past who _ _ c = []
 
 -- the end of channel k is told to the other side
 abbrev pub disconnected_on : List Entry → Entry → ContextNo → ℕ → List EventKind
-disconnected_on past e c k = on (closes past e k && goes_to past (channel past k) e.who c) (Disconnected (record { 0 = k }))
+disconnected_on past e c k = on (closes past e k && goes_to past (channel past k) e.who c)
+    (Disconnected (record { 0 = k }))
 
 -- the end of a host's channel
 abbrev pub host_disconnected : List Entry → Entry → Option Work → ContextNo → List EventKind
 host_disconnected past e (Some (ForChannel k)) c = disconnected_on past e c k.0
 host_disconnected past e _ c = []
 
--- a disconnect ends one channel, a leave all those of which it is the last live end on its side, and a host's end its own
+-- a disconnect ends one channel, a leave all those of which it is the last live end on its side, and a host's end its
+-- own
 abbrev pub disconnected : List Entry → Entry → Call → ContextNo → List EventKind
 disconnected past e (Disconnect k) c = disconnected_on past e c k.0
 disconnected past e Leave c = flat_map (disconnected_on past e c) (range_with_len 0 (length (channels past)))
@@ -99,7 +101,8 @@ replied past who _ _ c = []
 
 -- that request r is settled without a reply is told to the asker, unless it is the caller
 abbrev pub unanswered_on : List Entry → Entry → ContextNo → ℕ → List EventKind
-unanswered_on past e c r = on (settles past e r && is_asker (request past r) c && not (is_by e.who c)) (Closed (record { 0 = r }))
+unanswered_on past e c r = on (settles past e r && is_asker (request past r) c && not (is_by e.who c))
+    (Closed (record { 0 = r }))
 
 -- that a host's request is settled without a reply
 abbrev pub host_unanswered : List Entry → Entry → Option Work → ContextNo → List EventKind
@@ -115,11 +118,13 @@ unanswered past e _ c = []
 
 -- what entry e, with these before it, tells context c of channels
 abbrev pub of_channels : List Entry → Entry → ContextNo → List EventKind
-of_channels past e c = connected (length (channels past)) (opens past e) c ++ message past e.who e.call e.answer c ++ disconnected past e e.call c
+of_channels past e c = connected (length (channels past)) (opens past e) c ++ message past e.who e.call e.answer c
+    ++ disconnected past e e.call c
 
 -- what it tells context c of requests
 abbrev pub of_requests : List Entry → Entry → ContextNo → List EventKind
-of_requests past e c = asked (length (requests past)) (asks past e) c ++ replied past e.who e.call e.answer c ++ unanswered past e e.call c
+of_requests past e c = asked (length (requests past)) (asks past e) c ++ replied past e.who e.call e.answer c
+    ++ unanswered past e e.call c
 
 -- all that it tells: of channels in rising number, then of requests
 abbrev pub tells : List Entry → Entry → ContextNo → List EventKind
@@ -176,7 +181,8 @@ drops_by _ _ kind = false
 abbrev pub is_dropped : List Entry → ContextNo → Event → Bool
 is_dropped [] c event = false
 is_dropped (e ∷ past) c event =
-    is_dropped past c event || (is_by e.who c && drops_by e.call e.answer event.kind && nat_lt event.entry.0 (length past))
+    is_dropped past c event || (is_by e.who c && drops_by e.call e.answer event.kind
+    && nat_lt event.entry.0 (length past))
 
 -- the event was not taken, and its channel not disconnected
 abbrev pub is_waiting : List Entry → ContextNo → Event → Bool

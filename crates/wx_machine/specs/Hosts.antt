@@ -22,8 +22,10 @@ pub record Start : Type 0 where
 
 -- a native call that was answered with a number starts a host for the channel or request of that number
 abbrev pub started_by : List Entry → Who → Call → Answer → Option Start
-started_by past (ByContext c) (ConnectNative name) (OnChannel k) = Some (record { caller = c; name = name; work = ForChannel (record { 0 = length (channels past) }) })
-started_by past (ByContext c) (SendNative name text) (OnRequest r) = Some (record { caller = c; name = name; work = ForRequest (record { 0 = length (requests past) }) })
+started_by past (ByContext c) (ConnectNative name) (OnChannel k) = Some
+    (record { caller = c; name = name; work = ForChannel (record { 0 = length (channels past) }) })
+started_by past (ByContext c) (SendNative name text) (OnRequest r) = Some
+    (record { caller = c; name = name; work = ForRequest (record { 0 = length (requests past) }) })
 started_by past _ _ _ = None
 
 -- the host that an entry starts

@@ -17,9 +17,11 @@ pub record Parties : Type 0 where
   pub asker : ContextNo
   pub receivers : List ContextNo
 
--- A send that was answered with a request makes one, from its caller to those that its target reaches, or to the host that it starts.
+-- A send that was answered with a request makes one, from its caller to those that its target reaches, or to the host
+-- that it starts.
 abbrev pub asked_by : List Entry → Who → Call → Answer → Option Parties
-asked_by past (ByContext c) (Send target text) (OnRequest r) = Some (record { asker = c; receivers = receivers_of past c target Message })
+asked_by past (ByContext c) (Send target text) (OnRequest r) = Some
+    (record { asker = c; receivers = receivers_of past c target Message })
 asked_by past (ByContext c) (SendNative name text) (OnRequest r) = Some (record { asker = c; receivers = [] })
 asked_by past _ _ _ = None
 

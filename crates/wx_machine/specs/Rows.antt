@@ -84,7 +84,8 @@ ReceiverDisconnects =
     (world : WorldLists) → answers_to world
     (two_listeners
     ++ (by 1 (Disconnect (channel 0)) ∷ by 2 (post 0 (codes "7")) ∷ by 0 Take ∷ by 1 (Disconnect (channel 0)) ∷ by 2 Take ∷ by 0 Leave ∷ by 1 Leave ∷ by 2 Leave ∷ []))
-    ≡ two_listeners_answers ++ (Done ∷ PortClosed ∷ told 8 (Disconnected (channel 0)) ∷ NoEffect ∷ Empty ∷ Done ∷ Done ∷ Done ∷ [])
+    ≡ two_listeners_answers ++ (Done ∷ PortClosed ∷ told 8 (Disconnected (channel 0)) ∷ NoEffect ∷ Empty ∷ Done ∷ Done
+    ∷ Done ∷ [])
 
 abbrev pub receiver_leaves_calls : List (Who × Call)
 receiver_leaves_calls = two_listeners ++ (by 1 Leave ∷ by 2 (post 0 (codes "7")) ∷ by 0 Take ∷ by 2 Leave ∷ by 0 Leave ∷ [])
@@ -93,7 +94,8 @@ receiver_leaves_calls = two_listeners ++ (by 1 Leave ∷ by 2 (post 0 (codes "7"
 abbrev pub ReceiverLeaves : Type 0
 ReceiverLeaves =
     (world : WorldLists)
-    → (answers_to world receiver_leaves_calls ≡ two_listeners_answers ++ (Done ∷ Posted ∷ told 9 (Message (channel 0)) ∷ Done ∷ Done ∷ []))
+    → (answers_to world receiver_leaves_calls ≡ two_listeners_answers
+    ++ (Done ∷ Posted ∷ told 9 (Message (channel 0)) ∷ Done ∷ Done ∷ []))
     × (closed_at (made_of world receiver_leaves_calls []) 0 ≡ Some 11)
 
 -- what was posted before the opener left stays to be taken
@@ -102,9 +104,12 @@ PostsOutliveTheOpener =
     (world : WorldLists) → answers_to world
     (by 0 (a_page (codes "/q")) ∷ by 1 (a_page (codes "/p")) ∷ by 1 listen_connect ∷ by 0 connect ∷ by 1 listen_connect
     ∷ by 0 (post 0 (codes "1")) ∷ by 1 listen_connect ∷ by 0 (post 0 (codes "2")) ∷ by 1 listen_connect ∷ by 0 (post 0 (codes "3")) ∷ by 1 listen_connect
-    ∷ by 0 Leave ∷ by 1 listen_connect ∷ by 1 Take ∷ by 1 Take ∷ by 1 Take ∷ by 1 Take ∷ by 1 Take ∷ by 1 Take ∷ by 1 Leave ∷ [])
-    ≡ entered 0 ∷ entered 1 ∷ Done ∷ OnChannel (channel 0) ∷ Done ∷ Posted ∷ Done ∷ Posted ∷ Done ∷ Posted ∷ Done ∷ Done ∷ Done
-    ∷ told 3 (Connected (channel 0)) ∷ told 5 (Message (channel 0)) ∷ told 7 (Message (channel 0)) ∷ told 9 (Message (channel 0)) ∷ told 11 (Disconnected (channel 0)) ∷ Empty ∷ Done ∷ []
+    ∷ by 0 Leave ∷ by 1 listen_connect ∷ by 1 Take ∷ by 1 Take ∷ by 1 Take ∷ by 1 Take ∷ by 1 Take ∷ by 1 Take
+    ∷ by 1 Leave ∷ [])
+    ≡ entered 0 ∷ entered 1 ∷ Done ∷ OnChannel (channel 0) ∷ Done ∷ Posted ∷ Done ∷ Posted ∷ Done ∷ Posted ∷ Done ∷ Done
+    ∷ Done
+    ∷ told 3 (Connected (channel 0)) ∷ told 5 (Message (channel 0)) ∷ told 7 (Message (channel 0))
+    ∷ told 9 (Message (channel 0)) ∷ told 11 (Disconnected (channel 0)) ∷ Empty ∷ Done ∷ []
 
 -- one who disconnects a channel takes nothing more of it
 abbrev pub DisconnectDropsWhatWaits : Type 0
@@ -154,7 +159,8 @@ FirstReplyWins =
 -- a request is closed where its receivers have declined or left
 abbrev pub ClosedWithoutReply : Type 0
 ClosedWithoutReply =
-    (world : WorldLists) → answers_to world (two_asked ++ (by 1 (decline 0) ∷ by 2 Leave ∷ by 0 Take ∷ by 1 Leave ∷ by 0 Leave ∷ []))
+    (world : WorldLists) → answers_to world (two_asked ++ (by 1 (decline 0) ∷ by 2 Leave ∷ by 0 Take ∷ by 1 Leave
+    ∷ by 0 Leave ∷ []))
     ≡ two_asked_answers ++ (Done ∷ Done ∷ told 9 (Closed (request 0)) ∷ Done ∷ Done ∷ [])
 
 -- an asker that leaves settles its request: the reply comes late, and nobody is told
@@ -181,14 +187,16 @@ connect_to_tab frame = Connect (Tab (record { 0 = 7 }) frame) []
 abbrev pub tabs_and_frames_calls : List (Who × Call)
 tabs_and_frames_calls =
     by 0 (frame_of_tab 0 (codes "https://a.b/")) ∷ by 0 listen_connect ∷ by 1 (frame_of_tab 3 (codes "https://a.b/f")) ∷ by 1 listen_connect ∷ by 2 (a_page (codes "/p"))
-    ∷ by 2 (connect_to_tab (Some (record { 0 = 5 }))) ∷ by 2 (connect_to_tab (Some (record { 0 = 3 }))) ∷ by 1 Take ∷ by 2 (connect_to_tab None) ∷ by 0 Take ∷ by 1 Take ∷ []
+    ∷ by 2 (connect_to_tab (Some (record { 0 = 5 }))) ∷ by 2 (connect_to_tab (Some (record { 0 = 3 }))) ∷ by 1 Take
+    ∷ by 2 (connect_to_tab None) ∷ by 0 Take ∷ by 1 Take ∷ []
 
 -- a page reaches the content scripts of its extension that listen in a tab, or the one in a frame of it
 abbrev pub TabsAndFrames : Type 0
 TabsAndFrames =
     (world : WorldLists) → answers_to world tabs_and_frames_calls
     ≡ entered 0 ∷ Done ∷ entered 1 ∷ Done ∷ entered 2
-    ∷ NoReceiver ∷ OnChannel (channel 0) ∷ told 6 (Connected (channel 0)) ∷ OnChannel (channel 1) ∷ told 8 (Connected (channel 1)) ∷ told 8 (Connected (channel 1)) ∷ []
+    ∷ NoReceiver ∷ OnChannel (channel 0) ∷ told 6 (Connected (channel 0)) ∷ OnChannel (channel 1)
+    ∷ told 8 (Connected (channel 1)) ∷ told 8 (Connected (channel 1)) ∷ []
 
 abbrev pub connect_to_a : Call
 connect_to_a = Connect (Other id_a) []
@@ -199,7 +207,8 @@ from_outside_calls =
     ∷ by 1 (Enter (Page id_b (codes "/q"))) ∷ by 2 (Enter (Web (record { 0 = 7 }) (record { 0 = 0 }) (codes "https://a.b/")))
     ∷ by 1 connect_to_a ∷ by 2 connect_to_a ∷ by 0 Take ∷ by 1 Leave ∷ by 2 connect ∷ []
 
--- a page that listens to connections from outside hears another extension; no web page may call its extension, nor an extension of its own
+-- a page that listens to connections from outside hears another extension; no web page may call its extension, nor an
+-- extension of its own
 abbrev pub FromOutside : Type 0
 FromOutside =
     answers_to empty_world from_outside_calls
@@ -236,7 +245,8 @@ host_ends_calls =
 
 -- a host ends, and its channel with it
 abbrev pub HostEnds : Type 0
-HostEnds = answers_to with_hosts host_ends_calls ≡ entered 0 ∷ OnChannel (channel 0) ∷ Done ∷ told 2 (Disconnected (channel 0)) ∷ Done ∷ []
+HostEnds = answers_to with_hosts host_ends_calls ≡ entered 0 ∷ OnChannel (channel 0) ∷ Done
+    ∷ told 2 (Disconnected (channel 0)) ∷ Done ∷ []
 
 -- a host that ended takes nothing more, and its channel is closed
 abbrev pub EndedHostTakesNothing : Type 0
@@ -266,7 +276,8 @@ HostFailsToStart =
     (by 0 (a_page (codes "/p")) ∷ by 0 (SendNative (codes "e") (codes "0")) ∷ by_host 0 (HostEnded reason.StartFailed) ∷ by 0 Take ∷ by 0 Leave ∷ [])
     ≡ entered 0 ∷ OnRequest (request 0) ∷ Done ∷ told 2 (Closed (request 0)) ∷ Done ∷ []
 
--- two hosts of one name have channels and texts of their own; what was posted on a closed channel is taken before the end
+-- two hosts of one name have channels and texts of their own; what was posted on a closed channel is taken before the
+-- end
 abbrev pub HostsTakeTheirOwn : Type 0
 HostsTakeTheirOwn =
     answers_to with_hosts

@@ -17,10 +17,12 @@ abbrev pub is_decline : ℕ → Call → Bool
 is_decline r (Decline j) = j.0 == r
 is_decline r _ = false
 
--- Context c, a live receiver of request r, declined it. A decline before the request was made is none of a receiver, and does not count.
+-- Context c, a live receiver of request r, declined it. A decline before the request was made is none of a receiver,
+-- and does not count.
 abbrev pub has_declined : List Entry → ℕ → ContextNo → Bool
 has_declined [] r c = false
-has_declined (e ∷ past) r c = has_declined past r c || (is_decline r e.call && is_by e.who c && is_live past c && is_asked (request past r) c)
+has_declined (e ∷ past) r c = has_declined past r c || (is_decline r e.call && is_by e.who c && is_live past c
+    && is_asked (request past r) c)
 
 -- context c lives and has not declined request r
 abbrev pub is_open_to : List Entry → ℕ → ContextNo → Bool
@@ -31,11 +33,15 @@ abbrev pub has_open : List Entry → ℕ → Option Parties → Bool
 has_open past r None = false
 has_open past r (Some parties) = list_any (is_open_to past r) parties.receivers
 
--- entry e settles request r, which has these parties: a reply of a receiver that may still reply, the decline or leave after which none may, the asker's leave, or what its host says or that it ends
+-- entry e settles request r, which has these parties: a reply of a receiver that may still reply, the decline or leave
+-- after which none may, the asker's leave, or what its host says or that it ends
 abbrev pub settles_by : List Entry → Entry → ℕ → Option Parties → Who → Call → Bool
-settles_by past e r parties (ByContext c) (Reply j text) = (j.0 == r) && is_asked parties c && is_open_to past r c && not (nat_lt LONGEST (length text))
-settles_by past e r parties (ByContext c) (Decline j) = (j.0 == r) && is_asked parties c && is_live past c && not (has_open (e ∷ past) r parties)
-settles_by past e r parties (ByContext c) Leave = is_asker parties c || (is_asked parties c && not (has_open (e ∷ past) r parties))
+settles_by past e r parties (ByContext c) (Reply j text) = (j.0 == r) && is_asked parties c && is_open_to past r c
+    && not (nat_lt LONGEST (length text))
+settles_by past e r parties (ByContext c) (Decline j) = (j.0 == r) && is_asked parties c && is_live past c
+    && not (has_open (e ∷ past) r parties)
+settles_by past e r parties (ByContext c) Leave = is_asker parties c
+    || (is_asked parties c && not (has_open (e ∷ past) r parties))
 settles_by past e r parties (ByHost h) (HostSaid text) = is_for_request r (work_of past h)
 settles_by past e r parties (ByHost h) (HostEnded reason) = is_for_request r (work_of past h)
 settles_by past e r parties _ _ = false

@@ -35,7 +35,8 @@ is_text_for past _ _ _ h = false
 -- the entries with the texts for host h
 abbrev pub texts_for : List Entry → HostNo → List EntryNo
 texts_for [] h = []
-texts_for (e ∷ past) h = texts_for past h ++ cond (is_text_for past e.who e.call e.answer h) (record { 0 = length past } ∷ []) []
+texts_for (e ∷ past) h = texts_for past h ++ cond (is_text_for past e.who e.call e.answer h)
+    (record { 0 = length past } ∷ []) []
 
 abbrev pub text_taken : Call → Answer → Bool → List EntryNo
 text_taken HostTake (HasText n) true = n ∷ []

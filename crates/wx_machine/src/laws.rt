@@ -1,5 +1,10 @@
 //! Worked examples of the definitions, each the contract of a function that does nothing.
-ghost use Rattle.wx_machine.specs.Rows.{OneConnectionOnePost, ConnectReachesNobody, ReceiverDisconnects, ReceiverLeaves, PostsOutliveTheOpener, DisconnectDropsWhatWaits, FirstReplyWins, ClosedWithoutReply, AskerLeaves, EarlyDecline, TabsAndFrames, FromOutside, OwnFlagsServeOwnCalls, HostEnds, EndedHostTakesNothing, HostReplies, HostFailsToStart, HostsTakeTheirOwn, NativeGateInOrder};
+ghost use Rattle.wx_machine.specs.Rows.{OneConnectionOnePost, ConnectReachesNobody, ReceiverDisconnects};
+ghost use Rattle.wx_machine.specs.Rows.{ReceiverLeaves, PostsOutliveTheOpener, DisconnectDropsWhatWaits};
+ghost use Rattle.wx_machine.specs.Rows.{FirstReplyWins, ClosedWithoutReply, AskerLeaves, EarlyDecline};
+ghost use Rattle.wx_machine.specs.Rows.{TabsAndFrames, FromOutside, OwnFlagsServeOwnCalls, HostEnds};
+ghost use Rattle.wx_machine.specs.Rows.{EndedHostTakesNothing, HostReplies, HostFailsToStart, HostsTakeTheirOwn};
+ghost use Rattle.wx_machine.specs.Rows.{NativeGateInOrder};
 
 /// Two pages, one connection, one posted number.
 pub fn one_connection_one_post()

@@ -142,7 +142,13 @@ manifest_in d = do
   version ← text_of key.Version d
   native ← native_of d
   external ← external_of d
-  Ok record { manifest_version = manifest_version; name = name; version = version; native = native; external = external }
+  Ok record {
+    manifest_version = manifest_version;
+    name = name;
+    version = version;
+    native = native;
+    external = external;
+  }
 
 -- what the manifest holds, or the first test that fails
 unfoldable pub extension_of : List ℕ → Result Manifest ManifestFault

@@ -31,8 +31,10 @@ text_in r = take (told_length r) (drop 4 r)
 -- What is wrong with bytes that begin where a frame does. With fewer than four nothing is wrong.
 pub data IsTrouble (r : List ℕ) (limit : ℕ) : FrameFault → Type 0 where
   too_long : {n : ℕ} → 4 ≤ length r → n ≡ told_length r → limit < n → IsTrouble r limit (TooLong n)
-  bad_text : {f : JsonFault} → 4 ≤ length r → told_length r ≤ limit → IsFault (text_in r) f → IsTrouble r limit (BadJson f)
-  cut_text : {f : JsonFault} → 4 ≤ length r → told_length r ≤ limit → length (text_in r) ≡ told_length r → IsUnfinished (text_in r) f → IsTrouble r limit (BadJson f)
+  bad_text : {f : JsonFault} → 4 ≤ length r → told_length r ≤ limit → IsFault (text_in r) f
+      → IsTrouble r limit (BadJson f)
+  cut_text : {f : JsonFault} → 4 ≤ length r → told_length r ≤ limit → length (text_in r) ≡ told_length r
+      → IsUnfinished (text_in r) f → IsTrouble r limit (BadJson f)
 
 -- Nothing is wrong, and no whole frame stands in front.
 pub record IsUnderWay (r : List ℕ) (limit : ℕ) : Type 0 where

@@ -1,6 +1,8 @@
 //! The reader of frames that come in pieces.
-ghost use Rattle.std.specs.Prelude.{◌≡◌, ℕ, ◌+◌, ◌<◌, ◌≤◌, ◌^◌, List, [], ◌++◌, length, take, OnOk, IfErr, IfOk, IfSome, IfNone, MatchOption, MatchResult};
-ghost use Rattle.wx_native_frame.specs.Frames.{told_length, frame, IsTrouble, IsTroubleFirst, IsUnderWay, EndsFrame, StopsAt};
+ghost use Rattle.std.specs.Prelude.{◌≡◌, ℕ, ◌+◌, ◌<◌, ◌≤◌, ◌^◌, List, [], ◌++◌, length, take, OnOk};
+ghost use Rattle.std.specs.Prelude.{IfErr, IfOk, IfSome, IfNone, MatchOption, MatchResult};
+ghost use Rattle.wx_native_frame.specs.Frames.{told_length, frame, IsTrouble, IsTroubleFirst};
+ghost use Rattle.wx_native_frame.specs.Frames.{IsUnderWay, EndsFrame, StopsAt};
 ghost use Rattle.wx_native_frame.specs.declared.FrameFault.{FrameFault};
 
 use crate::head::Head;

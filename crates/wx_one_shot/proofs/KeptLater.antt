@@ -18,6 +18,7 @@ use Rattle.wx_one_shot.specs.declared.requests.Standing.{Standing}
 use Rattle.wx_one_shot.specs.declared.requests.Standing.TheVariants.{Open, Late, Stranger}
 use Rattle.wx_one_shot.specs.Requests.{Request, asked, settled, still_open_at, without, left_by, is_settled_at, is_unsettled_at, standing_at, concerns_at}
 use Rattle.wx_one_shot.specs.Kept.{request_of, requests_of}
+use Rattle.wx_port.proofs.KeptLater.{live_some}
 
 -- the request of a number
 pub request_at : (ports : List Port) (k : ℕ) → slice_get (requests_of ports) k ≡ option_map request_of (slice_get ports k)
@@ -191,10 +192,6 @@ still_open_is ports k = rw (request_at ports k) (by (slice_get ports k))
     by : (o : Option Port) → still_open_at (option_map request_of o) ≡ live_of o
     by None = refl
     by (Some port) = refl
-
-live_some : (o : Option Port) (c : ContextNo) → is_live_end o c ≡ true → is_some o ≡ true
-live_some None c h = absurd (false≢true h)
-live_some (Some port) c h = refl
 
 -- a channel that a live end dropped is there still
 pub still_there : (ports ports' : List Port) (k : ℕ) (c : ContextNo) (change : Port → Port) → is_live_end (slice_get ports k) c ≡ true → IfSome (slice_get ports k) (λ port. ports' ≡ set ports k (change port)) → is_some (slice_get ports' k) ≡ true

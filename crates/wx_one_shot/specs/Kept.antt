@@ -5,7 +5,13 @@ use Rattle.wx_one_shot.specs.Requests.{Request}
 
 -- the request that is kept as this channel
 abbrev pub request_of : Port → Request
-request_of port = record { asker = port.opener; receivers = port.receivers; still_open = port.live; is_settled = not port.is_open }
+request_of port = record {
+  asker = port.opener;
+  receivers = port.receivers;
+  still_open = port.live;
+  is_settled = not
+      port.is_open;
+}
 
 -- the requests by number
 abbrev pub requests_of : List Port → List Request

@@ -22,16 +22,23 @@ settled request = record { asker = request.asker; receivers = request.receivers;
 
 -- an unsettled request where just these may still reply: it is settled where there are none
 abbrev pub left_to : List ContextNo → Request → Request
-left_to contexts request = record { asker = request.asker; receivers = request.receivers; still_open = contexts; is_settled = length contexts == 0 }
+left_to contexts request = record {
+  asker = request.asker;
+  receivers = request.receivers;
+  still_open = contexts;
+  is_settled = length contexts == 0;
+}
 
 -- an unsettled request once receiver c will not reply
 abbrev pub without : ContextNo → Request → Request
 without c request = left_to (filter (is_other c) request.still_open) request
 
--- the request once context c has left: an unsettled one that c asked is settled, and one that was sent to c is left to the others
+-- the request once context c has left: an unsettled one that c asked is settled, and one that was sent to c is left to
+-- the others
 abbrev pub left_by : ContextNo → Request → Request
 left_by c request =
-    cond request.is_settled request (cond (same_context request.asker c) (settled request) (cond (is_among request.receivers c) (without c request) request))
+    cond request.is_settled request (cond (same_context request.asker c) (settled request)
+    (cond (is_among request.receivers c) (without c request) request))
 
 -- the request with a number has been given out and is settled
 abbrev pub is_settled_at : Option Request → Bool
@@ -60,4 +67,5 @@ standing_at (Some request) c = cond (is_among request.receivers c) (cond (may_re
 -- the request with a number is not settled, and context c asked it or may still reply to it
 abbrev pub concerns_at : Option Request → ContextNo → Bool
 concerns_at None c = false
-concerns_at (Some request) c = not request.is_settled && ((same_context request.asker c) || is_among request.still_open c)
+concerns_at (Some request) c = not request.is_settled && ((same_context request.asker c)
+    || is_among request.still_open c)

@@ -1,8 +1,10 @@
 //! The requests, each kept as a channel from its asker to its receivers, which its outcome closes.
-ghost use Rattle.std.specs.Prelude.{◌≡◌, ◌≤◌, ◌<◌, ℕ, [], ◌∷◌, ◌++◌, length, map, false, IsTrue, IfSome, IfOk, IfErr, OnOk, OnErr, Some, slice_get, slice_set};
+ghost use Rattle.std.specs.Prelude.{◌≡◌, ◌≤◌, ◌<◌, ℕ, [], ◌∷◌, ◌++◌, length, map, false, IsTrue};
+ghost use Rattle.std.specs.Prelude.{IfSome, IfOk, IfErr, OnOk, OnErr, Some, slice_get, slice_set};
 ghost use Rattle.std.specs.Option.{IfNone};
 ghost use Rattle.wx_id.specs.Contexts.{is_among, are_distinct};
-ghost use Rattle.wx_one_shot.specs.Requests.{asked, settled, without, left_by, is_settled_at, is_unsettled_at, standing_at, still_open_at, concerns_at};
+ghost use Rattle.wx_one_shot.specs.Requests.{asked, settled, without, left_by, is_settled_at, is_unsettled_at};
+ghost use Rattle.wx_one_shot.specs.Requests.{standing_at, still_open_at, concerns_at};
 ghost use Rattle.wx_one_shot.specs.Kept.{requests_of};
 ghost use Rattle.wx_one_shot.specs.declared.requests.Standing.TheVariants.{Open};
 
@@ -49,7 +51,8 @@ fn settle_in(ports: &mut Ports, r: ChannelNo)
     ports.close(r);
 }
 
-/// Receiver c, which is open, will not reply to request r, which is kept as this channel. Answers whether that settled it.
+/// Receiver c, which is open, will not reply to request r, which is kept as this channel. Answers whether that settled
+/// it.
 fn close_in(ports: &mut Ports, r: ChannelNo, c: ContextNo) -> bool
     requires { standing_at (slice_get (requests_of ports.old) r.0) c ≡ Open }
     ensures requests { IfSome (slice_get (requests_of ports.old) r.0) (λ request. requests_of ports.new
@@ -88,8 +91,8 @@ impl Requests {
         }
     }
 
-    /// Makes a request to distinct receivers other than the asker, or to none, as one to a native host. It gets the next
-    /// number. Refused for want of memory alone: then nothing is changed, and the receivers come back.
+    /// Makes a request to distinct receivers other than the asker, or to none, as one to a native host. It gets the
+    /// next number. Refused for want of memory alone: then nothing is changed, and the receivers come back.
     #[tactic(auto, using(crate::proofs::KeptLater::asked_is, crate::proofs::KeptLater::count_is))]
     pub fn ask(
         &mut self,
@@ -160,8 +163,8 @@ impl Requests {
         close_in(&mut self.ports, ChannelNo(r.0), c)
     }
 
-    /// Context c, whose standing is open, declines request r. Answers whether that settled it: then no receiver is open.
-    /// Takes no memory.
+    /// Context c, whose standing is open, declines request r. Answers whether that settled it: then no receiver is
+    /// open. Takes no memory.
     pub fn decline(&mut self, r: RequestNo, c: ContextNo) -> bool
         requires { standing_at (slice_get self.old r.0) c ≡ Open }
         ensures requests { IfSome (slice_get self.old r.0)
@@ -171,8 +174,8 @@ impl Requests {
         self.close_at(r, c)
     }
 
-    /// Context c, whose standing is open, leaves and will not reply to request r. Answers whether that settled it: then no
-    /// receiver is open. Takes no memory.
+    /// Context c, whose standing is open, leaves and will not reply to request r. Answers whether that settled it:
+    /// then no receiver is open. Takes no memory.
     pub fn drop_receiver(&mut self, r: RequestNo, c: ContextNo) -> bool
         requires { standing_at (slice_get self.old r.0) c ≡ Open }
         ensures requests { IfSome (slice_get self.old r.0)

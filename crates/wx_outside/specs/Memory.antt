@@ -8,7 +8,8 @@ use Rattle.wx_outside.specs.Shelf.{Files}
 -- the bytes of the first file with this name
 abbrev pub bytes_at : List MemoryFile → List ℕ → Option (List ℕ)
 bytes_at [] name = None
-bytes_at (file ∷ files) name = if bytes_eq name (string_bytes file.name) then Some file.bytes.items else bytes_at files name
+bytes_at (file ∷ files) name = if bytes_eq name (string_bytes file.name) then Some file.bytes.items else bytes_at files
+    name
 
 -- a file's name and its bytes
 abbrev pub named : MemoryFile → List ℕ × List ℕ

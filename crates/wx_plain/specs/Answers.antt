@@ -28,8 +28,10 @@ FileAnswers OfBytes too_large answer = answer ≡ Err input.Large
 FileAnswers OfBytes (present bytes) answer = OfBytes bytes answer
 
 -- the same, as far as the shelf tells
-abbrev pub ToldAnswers : (List ℕ → Result Output InputKind → Type 0) → Option Files → List ℕ → Result Output InputKind → Type 0
-ToldAnswers OfBytes files file answer = (content : Content) × Tells files file content × FileAnswers OfBytes content answer
+abbrev pub ToldAnswers : (List ℕ → Result Output InputKind → Type 0) → Option Files → List ℕ → Result Output InputKind
+    → Type 0
+ToldAnswers OfBytes files file answer = (content : Content) × Tells files file content
+    × FileAnswers OfBytes content answer
 
 -- what a command answers, as far as the shelf tells
 abbrev pub Answers : Option Files → PlainCommand → Result Output InputKind → Type 0

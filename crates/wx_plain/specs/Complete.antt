@@ -17,7 +17,8 @@ IsToldTo helping told = Unit {0}
 IsToldTo versioning told = Unit {0}
 
 -- The words ask for a command, this is its output by what the shelf tells, and nothing failed in the call.
-pub record NothingIsWrong (words : List (List ℕ)) (shelf : ShelfChange) (out err : SinkChange) (output : Output) : Type 0 where
+pub record NothingIsWrong (words : List (List ℕ)) (shelf : ShelfChange) (out err : SinkChange) (output : Output)
+    : Type 0 where
   pub command : PlainCommand
   pub asked : plain_command_of words ≡ Some command
   pub told : IsToldTo command shelf.before.files
@@ -29,4 +30,5 @@ pub record NothingIsWrong (words : List (List ℕ)) (shelf : ShelfChange) (out e
 -- Then the answer is Done or No, as the output says, unless memory was refused.
 abbrev pub IsPlainComplete : List (List ℕ) → ShelfChange → SinkChange → SinkChange → Status → Type 0
 IsPlainComplete words shelf out err result =
-    (output : Output) → NothingIsWrong words shelf out err output → (result ≡ answer_status output.yes) ⊎ (result ≡ NoMemory)
+    (output : Output) → NothingIsWrong words shelf out err output → (result ≡ answer_status output.yes)
+    ⊎ (result ≡ NoMemory)

@@ -39,7 +39,8 @@ Judged words shelf no_memory = Unit {0}
 Judged words shelf (answered output) = Answered words shelf (Ok output)
 
 -- The call has a verdict, which has its cause, and tells it.
-pub record PlainHeadline (words : List (List ℕ)) (shelf : ShelfChange) (out err : SinkChange) (result : Status) : Type 0 where
+pub record PlainHeadline (words : List (List ℕ)) (shelf : ShelfChange) (out err : SinkChange) (result : Status)
+    : Type 0 where
   pub verdict : Verdict
   pub judged : Judged words shelf verdict
   pub told : Told verdict out err result

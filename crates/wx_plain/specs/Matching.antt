@@ -39,4 +39,5 @@ no_output = record { yes = false; text = codes "no\n" }
 abbrev pub MatchAnswers : Result PatternParts InputKind → Result Parts InputKind → Result Output InputKind → Type 0
 MatchAnswers (Err kind) url answer = answer ≡ Err kind
 MatchAnswers (Ok pattern) (Err kind) answer = answer ≡ Err kind
-MatchAnswers (Ok pattern) (Ok url) answer = ((answer ≡ Ok yes_output) × Meets pattern url) ⊎ ((answer ≡ Ok no_output) × ¬ Meets pattern url)
+MatchAnswers (Ok pattern) (Ok url) answer = ((answer ≡ Ok yes_output) × Meets pattern url)
+    ⊎ ((answer ≡ Ok no_output) × ¬ Meets pattern url)

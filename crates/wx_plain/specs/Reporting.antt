@@ -1,4 +1,5 @@
--- What `report FILE` prints of a journal: a line for each channel in number order, and behind them a line for each request.
+-- What `report FILE` prints of a journal: a line for each channel in number order, and behind them a line for each
+-- request.
 use Rattle.std.specs.Prelude.{◌≡◌, ℕ, zero, suc, List, [], ◌++◌, length, reverse, Option, Some, None, true, decimal, codes}
 use Rattle.wx_id.specs.declared.numbers.EntryNo.{EntryNo}
 use Rattle.wx_machine.specs.declared.entries.Entry.{Entry}

@@ -24,11 +24,12 @@ pub record AllWritten (bytes old new : List ℕ) (end : FramesEnd) : Type 0 wher
   pub ends : EndsBy rest end
   pub lines : new ≡ old ++ frame_lines 0 texts
 
--- What stands first in the bytes: a frame of so many bytes, whose line with the number n was written; or no frame, and they
--- end so.
+-- What stands first in the bytes: a frame of so many bytes, whose line with the number n was written; or no frame, and
+-- they end so.
 abbrev pub IsFirst : List ℕ → ℕ → List ℕ → List ℕ → First → Type 0
 IsFirst bytes n old new (Frame used) =
-    (text : List ℕ) × IsFrame frame_limit (take used bytes) text × (used ≤ length bytes) × (new ≡ old ++ frame_line n text)
+    (text : List ℕ) × IsFrame frame_limit (take used bytes) text × (used ≤ length bytes)
+    × (new ≡ old ++ frame_line n text)
 IsFirst bytes n old new (End end) = EndsBy bytes end × (new ≡ old)
 
 -- behind a frame nothing is in hand

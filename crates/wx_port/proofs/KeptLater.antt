@@ -30,7 +30,7 @@ open_some : (o : Option Port) → is_open_port o ≡ true → is_some o ≡ true
 open_some None h = absurd (false≢true h)
 open_some (Some port) h = refl
 
-live_some : (o : Option Port) (c : ContextNo) → is_live_end o c ≡ true → is_some o ≡ true
+pub live_some : (o : Option Port) (c : ContextNo) → is_live_end o c ≡ true → is_some o ≡ true
 live_some None c h = absurd (false≢true h)
 live_some (Some port) c h = refl
 

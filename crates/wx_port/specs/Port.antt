@@ -12,7 +12,8 @@ pub record Port : Type 0 where
   pub live : List ContextNo
   pub is_open : Bool
 
--- what holds of every channel: its ends are distinct, its live receivers are receivers and distinct, and none is live once it is closed
+-- what holds of every channel: its ends are distinct, its live receivers are receivers and distinct, and none is live
+-- once it is closed
 pub record IsSound (port : Port) : Type 0 where
   pub opener : is_among port.receivers port.opener ≡ false
   pub receivers : IsTrue (are_distinct port.receivers)
@@ -48,7 +49,8 @@ left_by c port = if port.is_open && is_end port c then without c port else port
 -- what c is to a channel, open or closed; nothing to one that was not opened yet
 abbrev pub end_of : Option Port → ContextNo → End
 end_of None c = Neither
-end_of (Some port) c = if same_context port.opener c then Opener else (if is_among port.receivers c then Receiver else Neither)
+end_of (Some port) c = if same_context port.opener c then Opener else
+    (if is_among port.receivers c then Receiver else Neither)
 
 -- the channel is there and open
 abbrev pub is_open_port : Option Port → Bool

@@ -29,7 +29,13 @@ cleared row = record { opener = row.opener; receivers = row.receivers; place = N
 -- the channel of a row and what the slab has of it
 abbrev pub port_with : Row → Option Open → Port
 port_with row None = record { opener = row.opener; receivers = row.receivers.items; live = []; is_open = false }
-port_with row (Some o) = record { opener = row.opener; receivers = row.receivers.items; live = o.live.items; is_open = true }
+port_with row (Some o) = record {
+  opener = row.opener;
+  receivers = row.receivers.items;
+  live = o.live.items;
+  is_open =
+      true;
+}
 
 abbrev pub port_in : Slab Open → Row → Port
 port_in slab row = port_with row (found slab row.place)
@@ -44,4 +50,10 @@ pub record IsTable (slab : Slab Open) (rows : List Row) : Type 0 where
 
 -- the channel without receiver c
 abbrev pub fewer : ContextNo → Port → Port
-fewer c port = record { opener = port.opener; receivers = port.receivers; live = filter (is_other c) port.live; is_open = port.is_open }
+fewer c port = record {
+  opener = port.opener;
+  receivers = port.receivers;
+  live = filter (is_other c) port.live;
+  is_open
+      = port.is_open;
+}

@@ -1,5 +1,6 @@
 //! The channels of a broker: the table of channels, and for each context the numbers of its own.
-ghost use Rattle.std.specs.Prelude.{◌≡◌, ℕ, ◌<◌, ◌≤◌, [], ◌∷◌, ◌++◌, IsTrue, false, true, IsNone, IfOk, IfErr, IfSome, OnOk, OnErr, length, map, not, slice_get, slice_set};
+ghost use Rattle.std.specs.Prelude.{◌≡◌, ℕ, ◌<◌, ◌≤◌, [], ◌∷◌, ◌++◌, IsTrue, false, true, IsNone, IfOk};
+ghost use Rattle.std.specs.Prelude.{IfErr, IfSome, OnOk, OnErr, length, map, not, slice_get, slice_set};
 ghost use Rattle.std.specs.List.Sorted.{IsNonDecreasing};
 ghost use Rattle.wx_id.specs.Contexts.{are_distinct, is_among};
 ghost use Rattle.wx_port.specs.Port as spec;

@@ -1,5 +1,7 @@
 //! The channels as a table: a row for each, at the place of its number, and a slab of the open ones.
-ghost use Rattle.std.specs.Prelude.{◌≡◌, ◌==◌, ℕ, ◌+◌, ◌<◌, List, [], ◌∷◌, ◌++◌, Some, cond, false, length, filter, map, not, IsTrue, IfOk, IfErr, IfSome, OnSome, OnOk, OnErr, slice_get, slice_set, vec_len, vec_capacity};
+ghost use Rattle.std.specs.Prelude.{◌≡◌, ◌==◌, ℕ, ◌+◌, ◌<◌, List, [], ◌∷◌, ◌++◌, Some, cond, false};
+ghost use Rattle.std.specs.Prelude.{length, filter, map, not, IsTrue, IfOk, IfErr, IfSome, OnSome};
+ghost use Rattle.std.specs.Prelude.{OnOk, OnErr, slice_get, slice_set, vec_len, vec_capacity};
 ghost use Rattle.std.specs.Option.{IsSomeAnd, option_map};
 ghost use Rattle.slab.specs.Slab.{get, Updates, HasRoomFor};
 ghost use Rattle.wx_id.specs.Contexts.{is_other};
@@ -73,7 +75,8 @@ fn close_row(rows: &mut Vec<Row>, slots: &mut Slab<Open>, k: usize)
     requires table { IsTable slots.old rows.old.items }
     requires is_open { IsTrue (is_open_port (slice_get (ports_of slots.old rows.old.items) k)) }
     ensures table { IsTable slots.new rows.new.items }
-    ensures ports { IfSome (slice_get (ports_of slots.old rows.old.items) k) (λ port. ports_of slots.new rows.new.items ≡ slice_set (ports_of slots.old rows.old.items) k (closed port)) }
+    ensures ports { IfSome (slice_get (ports_of slots.old rows.old.items) k)
+        (λ port. ports_of slots.new rows.new.items ≡ slice_set (ports_of slots.old rows.old.items) k (closed port)) }
 {
     if let Some(p) = place(rows, k) {
         let _ = slots.try_remove(p);
@@ -106,7 +109,8 @@ fn open_row(
     requires room { (vec_len rows.old < vec_capacity rows.old) × HasRoomFor slots.old 1 }
     requires same { live.items ≡ receivers.items }
     ensures table { IsTable slots.new rows.new.items }
-    ensures ports { ports_of slots.new rows.new.items ≡ ports_of slots.old rows.old.items ++ opened opener receivers.items ∷ [] }
+    ensures ports { ports_of slots.new rows.new.items ≡ ports_of slots.old rows.old.items
+        ++ opened opener receivers.items ∷ [] }
 {
     let number = rows.len();
     let place = slots.insert_reserved(Open { number, live });
@@ -120,7 +124,8 @@ fn open_row(
 /// Takes a receiver of the open channel at place p away.
 fn drop_live(slots: &mut Slab<Open>, p: usize, c: ContextNo)
     ensures updates { IfSome (get slots.old p) (λ o. Updates slots.old slots.new p (get slots.new p)) }
-    ensures live { IfSome (get slots.old p) (λ o. IsSomeAnd (get slots.new p) (λ n. (n.number ≡ o.number) × (n.live.items ≡ filter (is_other c) o.live.items))) }
+    ensures live { IfSome (get slots.old p) (λ o. IsSomeAnd (get slots.new p)
+        (λ n. (n.number ≡ o.number) × (n.live.items ≡ filter (is_other c) o.live.items))) }
 {
     if let Some(o) = slots.get_mut(p) {
         take_out(&mut o.live, c);
@@ -132,7 +137,8 @@ fn fewer_row(rows: &Vec<Row>, slots: &mut Slab<Open>, k: usize, p: usize, c: Con
     requires table { IsTable slots.old rows.now.items }
     requires place { place_of (slice_get rows.now.items k) ≡ Some p }
     ensures table { IsTable slots.new rows.now.items }
-    ensures ports { IfSome (slice_get (ports_of slots.old rows.now.items) k) (λ port. ports_of slots.new rows.now.items ≡ slice_set (ports_of slots.old rows.now.items) k (fewer c port)) }
+    ensures ports { IfSome (slice_get (ports_of slots.old rows.now.items) k)
+        (λ port. ports_of slots.new rows.now.items ≡ slice_set (ports_of slots.old rows.now.items) k (fewer c port)) }
 {
     let _ = rows;
     drop_live(slots, p, c);
@@ -221,8 +227,8 @@ impl Table {
         }
     }
 
-    /// An end c of the open channel k drops it; answers whether that closed it. The opener's drop does, and a receiver's
-    /// where no other is live.
+    /// An end c of the open channel k drops it; answers whether that closed it. The opener's drop does, and a
+    /// receiver's where no other is live.
     pub fn drop_end(&mut self, k: ChannelNo, c: ContextNo) -> bool
         requires { IsTrue (is_open_port (slice_get self.old k.0)) }
         ensures ports { IfSome (slice_get self.old k.0) (λ port. self.new ≡ slice_set self.old k.0 (without c port)) }

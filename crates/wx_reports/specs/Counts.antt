@@ -23,7 +23,8 @@ taken_by past k c = length (messages k (taken past (record { 0 = c })))
 
 -- how many texts host h took, where it works for channel k
 abbrev pub taken_by_host : List Entry → ℕ → ℕ → ℕ
-taken_by_host past k h = cond (is_for_channel k (work_of past (record { 0 = h }))) (length (texts_taken past (record { 0 = h }))) 0
+taken_by_host past k h = cond (is_for_channel k (work_of past (record { 0 = h })))
+    (length (texts_taken past (record { 0 = h }))) 0
 
 -- how many messages of channel k the contexts took and the hosts that work for it, each of them counted
 abbrev pub taken_on : List Entry → ℕ → ℕ

@@ -29,4 +29,5 @@ IsAsking past r n = option_map (λ (p : List Entry × Entry). makes_request p.0 
 -- that entry settled request r, in that way
 abbrev pub IsSettlement : List Entry → ℕ → EntryNo × Settled → Type 0
 IsSettlement past r s =
-    option_map {U = Bool × Settled} (λ (p : List Entry × Entry). (settles p.0 p.1 r, way (request p.0 r) p.1.who p.1.call)) (entry_at past s.0.0) ≡ Some (true, s.1)
+    option_map {U = Bool × Settled} (λ (p : List Entry × Entry).
+    (settles p.0 p.1 r, way (request p.0 r) p.1.who p.1.call)) (entry_at past s.0.0) ≡ Some (true, s.1)

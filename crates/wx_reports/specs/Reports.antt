@@ -28,7 +28,8 @@ opens_channel past e k = (length (channels past) == k) && is_some (opens past e)
 -- the entry that opened channel k
 abbrev pub opened_at : List Entry → ℕ → Option EntryNo
 opened_at [] k = None
-opened_at (e ∷ past) k = option_or (opened_at past k) (cond (opens_channel past e k) (Some (entry_no (length past))) None)
+opened_at (e ∷ past) k = option_or (opened_at past k) (cond (opens_channel past e k) (Some (entry_no (length past)))
+    None)
 
 -- a message is posted on channel k, or said by its host and passed on
 abbrev pub is_posting : List Entry → ℕ → Who → Call → Answer → Bool
@@ -55,7 +56,12 @@ taken (e ∷ past) k = taken past k + cond (is_taking past k e.who e.call e.answ
 -- the report on channel k, given the entry that opened it
 abbrev pub port_report_of : List Entry → ℕ → Option EntryNo → Option PortReport
 port_report_of past k None = None
-port_report_of past k (Some opened) = Some (record { opened = opened; closed = option_map entry_no (closed_at past k); posted = posted past k; taken = taken past k })
+port_report_of past k (Some opened) = Some (record {
+  opened = opened;
+  closed = option_map entry_no (closed_at past k);
+  posted = posted past k;
+  taken = taken past k;
+})
 
 -- what is told of channel k
 abbrev pub port_report : List Entry → ℕ → Option PortReport
@@ -74,7 +80,8 @@ abbrev pub way_of_leave : Bool → Settled
 way_of_leave true = Left
 way_of_leave false = Closed
 
--- how a request of these parties is settled: by a reply or what its host says, by the leave of its asker, or else without a reply
+-- how a request of these parties is settled: by a reply or what its host says, by the leave of its asker, or else
+-- without a reply
 abbrev pub way : Option Parties → Who → Call → Settled
 way parties (ByContext c) Leave = way_of_leave (is_asker parties c)
 way parties who (Reply r text) = First
@@ -84,7 +91,8 @@ way parties _ _ = Closed
 -- the entry that settled request r, and how: the first that ends it
 abbrev pub settlement : List Entry → ℕ → Option (EntryNo × Settled)
 settlement [] r = None
-settlement (e ∷ past) r = option_or (settlement past r) (cond (ends_request past e r) (Some (entry_no (length past), way (request past r) e.who e.call)) None)
+settlement (e ∷ past) r = option_or (settlement past r)
+    (cond (ends_request past e r) (Some (entry_no (length past), way (request past r) e.who e.call)) None)
 
 -- the report on request r, given the entry that made it
 abbrev pub request_report_of : List Entry → ℕ → Option EntryNo → Option RequestReport

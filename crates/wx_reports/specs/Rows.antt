@@ -21,7 +21,13 @@ abbrev pub made : WorldLists → List (Who × Call) → List Entry
 made world calls = made_of world calls []
 
 abbrev pub port : ℕ → Option ℕ → ℕ → ℕ → Option PortReport
-port opened closed posted taken = Some (record { opened = entry_no opened; closed = option_map entry_no closed; posted = posted; taken = taken })
+port opened closed posted taken = Some (record {
+  opened = entry_no opened;
+  closed = option_map entry_no closed;
+  posted =
+      posted;
+  taken = taken;
+})
 
 abbrev pub settled : ℕ → ℕ → Settled → Option RequestReport
 settled opened at way = Some (record { opened = entry_no opened; settled = Some (entry_no at, way) })
@@ -44,7 +50,8 @@ PostsOutliveTheOpener =
     (made world
     (to_one_listener
     ++ (by 0 (post 0 (codes "1")) ∷ by 1 listen_connect ∷ by 0 (post 0 (codes "2")) ∷ by 1 listen_connect ∷ by 0 (post 0 (codes "3")) ∷ by 1 listen_connect
-    ∷ by 0 Leave ∷ by 1 listen_connect ∷ by 1 Take ∷ by 1 Take ∷ by 1 Take ∷ by 1 Take ∷ by 1 Take ∷ by 1 Take ∷ by 1 Leave ∷ [])))
+    ∷ by 0 Leave ∷ by 1 listen_connect ∷ by 1 Take ∷ by 1 Take ∷ by 1 Take ∷ by 1 Take ∷ by 1 Take ∷ by 1 Take
+    ∷ by 1 Leave ∷ [])))
     0
     ≡ port 3 (Some 11) 3 3
 
@@ -68,7 +75,8 @@ two_hosts_calls =
 -- two hosts: the texts that each takes, and what it says before its channel is closed, count on its own channel
 abbrev pub HostsTakeTheirOwn : Type 0
 HostsTakeTheirOwn =
-    (port_report (made with_hosts two_hosts_calls) 0 ≡ port 1 (Some 9) 2 2) × (port_report (made with_hosts two_hosts_calls) 1 ≡ port 2 None 2 2)
+    (port_report (made with_hosts two_hosts_calls) 0 ≡ port 1 (Some 9) 2 2)
+    × (port_report (made with_hosts two_hosts_calls) 1 ≡ port 2 None 2 2)
 
 -- the first reply settles the request, and a later one does not
 abbrev pub FirstReply : Type 0
@@ -77,7 +85,8 @@ FirstReply = (world : WorldLists) → request_report (made world first_reply_cal
 -- a receiver declines and the other leaves
 abbrev pub ClosedWithoutReply : Type 0
 ClosedWithoutReply =
-    (world : WorldLists) → request_report (made world (two_asked ++ (by 1 (decline 0) ∷ by 2 Leave ∷ by 0 Take ∷ by 1 Leave ∷ by 0 Leave ∷ []))) 0 ≡ settled 5 9 Closed
+    (world : WorldLists) → request_report (made world (two_asked
+    ++ (by 1 (decline 0) ∷ by 2 Leave ∷ by 0 Take ∷ by 1 Leave ∷ by 0 Leave ∷ []))) 0 ≡ settled 5 9 Closed
 
 -- the asker leaves
 abbrev pub AskerLeaves : Type 0
@@ -86,7 +95,8 @@ AskerLeaves =
 
 -- a request that nobody settled yet
 abbrev pub NotSettled : Type 0
-NotSettled = (world : WorldLists) → request_report (made world two_asked) 0 ≡ Some (record { opened = entry_no 5; settled = None })
+NotSettled = (world : WorldLists) → request_report (made world two_asked) 0
+    ≡ Some (record { opened = entry_no 5; settled = None })
 
 -- what a host says settles its request
 abbrev pub HostReplies : Type 0

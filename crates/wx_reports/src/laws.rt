@@ -1,5 +1,7 @@
 //! Worked examples of the reports, each the contract of a function that does nothing.
-ghost use Rattle.wx_reports.specs.Rows.{OneConnection, PostsOutliveTheOpener, DisconnectDropsWhatWaits, HostsTakeTheirOwn, FirstReply, ClosedWithoutReply, AskerLeaves, NotSettled, HostReplies, HostFailsToStart};
+ghost use Rattle.wx_reports.specs.Rows.{OneConnection, PostsOutliveTheOpener, DisconnectDropsWhatWaits};
+ghost use Rattle.wx_reports.specs.Rows.{HostsTakeTheirOwn, FirstReply, ClosedWithoutReply, AskerLeaves};
+ghost use Rattle.wx_reports.specs.Rows.{NotSettled, HostReplies, HostFailsToStart};
 
 /// One channel, and no other.
 pub fn one_connection()

@@ -77,7 +77,8 @@ fn settlement_after(
     r: RequestNo,
     was: Option<(EntryNo, Settled)>,
 ) -> Option<(EntryNo, Settled)>
-    ensures { result ≡ option_or was (cond (ends_request (reverse before.now) e.now r.0) (Some (entry_no (length before.now), way (request (reverse before.now) r.0) e.now.who e.now.call)) None) }
+    ensures { result ≡ option_or was (cond (ends_request (reverse before.now) e.now r.0)
+        (Some (entry_no (length before.now), way (request (reverse before.now) r.0) e.now.who e.now.call)) None) }
 {
     match was {
         Some(settled) => Some(settled),

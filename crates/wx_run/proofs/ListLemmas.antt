@@ -15,11 +15,6 @@ length-take-at [] i x is = absurd cc
 length-take-at (y ∷ xs) zero x is = refl
 length-take-at (y ∷ xs) (suc i) x is = omega (arith, length-take-at xs i x is)
 
-pub set_same : {A : Type 0} (xs : List A) (i : ℕ) (x : A) → slice_get xs i ≡ Some x → set xs i x ≡ xs
-set_same [] i x is = absurd cc
-set_same (y ∷ xs) zero x is = let same : y ≡ x = cc in ap (λ y. y ∷ xs) (sym same)
-set_same (y ∷ xs) (suc i) x is = ap (λ t. y ∷ t) (set_same xs i x is)
-
 pub element_at : {A : Type 0} (xs : List A) (i : ℕ) → i < length xs → (x : A) × (slice_get xs i ≡ Some x)
 element_at [] i below = absurd (omega arith)
 element_at (x ∷ xs) zero below = (x, refl)

@@ -22,7 +22,8 @@ use Rattle.wx_run.specs.Cursors.{cursor_of, cursors_from, AreBehind, is_spent_at
 use Rattle.wx_run.specs.Rounds.{Turn, Turns}
 use Rattle.wx_run.specs.Step.{IsReady, Moves, Rests, IsStep}
 use Rattle.wx_run.specs.Round.{AllStand, IsWithinLimit, AreIdleBelow, IdleUnlessMoved, RoundSoFar, IsRound, SpendsEndpoint, Falls, Lessens}
-use Rattle.wx_run.proofs.ListLemmas.{take-snoc, length-take-at, set_same, element_at}
+use Rattle.wx_id.proofs.ListLemmas.{set_same}
+use Rattle.wx_run.proofs.ListLemmas.{take-snoc, length-take-at, element_at}
 use Rattle.wx_run.proofs.SeenLemmas.{carries_on}
 use Rattle.wx_run.proofs.CursorLemmas.{cursors_from-own, slice_get-cursors_from, length-cursors_from, scripts_in-cursors_from, entries_by-own, entries_by-other}
 use Rattle.wx_run.proofs.HostLemmas.{one_host_more}

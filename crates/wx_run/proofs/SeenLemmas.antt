@@ -16,6 +16,7 @@ use Rattle.wx_endpoint.specs.History.{place_in, MayStand, CarriesOn}
 use Rattle.wx_desk.proofs.HistoryLemmas.{own_in-cons}
 use Rattle.wx_desk.proofs.OverLemmas.{entries_in-seen_by}
 use Rattle.wx_run.specs.Round.{Follows}
+use Rattle.wx_script.proofs.LeftLemmas.{asked_of}
 
 pub place_in-seen_by : (s : List Command) (c : ContextNo) (past : List Entry) → place_in s (seen_by (ByContext c) past) ≡ place_of s c past
 unfolding place_of
@@ -26,16 +27,6 @@ pub own_in-seen_by : (c : ContextNo) (past : List Entry) → own_in (seen_by (By
 own_in-seen_by c [] = refl
 own_in-seen_by c (e ∷ past) =
     own_in-cons (record { own = is_by e.who c; entry = e }) (seen_by (ByContext c) past) ∙ ap (λ n. cond (is_by e.who c) 1 0 + n) (own_in-seen_by c past)
-
--- what an endpoint's script asks for, where its number is known
-asked_of : (scripts : List (List Command)) (s : List Command) (past : List Entry) (who : Who) (c : ContextNo) (e : Entry)
-    → AskedOf scripts past who e → is_by who c ≡ true → slice_get scripts c.0 ≡ Some s → MayCome past c (next_of s c past) e
-asked_of scripts s past (ByContext d) c e asked is_c is =
-    let same : d.0 ≡ c.0 = eqb-true d.0 c.0 is_c in
-    let here : IsAskedOf scripts past c e = subst (λ n. IsAskedOf scripts past (record { 0 = n }) e) same asked in
-    let one : s ≡ here.script = (let both : Some s ≡ Some here.script = sym is ∙ here.is_endpoint in cc) in
-    subst (λ s. MayCome past c (next_of s c past) e) (sym one) here.asked
-asked_of scripts s past (ByHost h) c e asked is_c is = absurd cc
 
 pub may_stand : (s : List Command) (c : ContextNo) (past : List Entry) (e : Entry) → MayCome past c (next_of s c past) e → MayStand s c true (seen_by (ByContext c) past) e
 may_stand s c past e may =
@@ -53,7 +44,7 @@ carries_on scripts s c [] is follows = tt
 carries_on scripts s c (e ∷ past) is follows = (
   carries_on scripts s c past is follows.0,
   elim (is_by e.who c) as (λ b. is_by e.who c ≡ b → MayStand s c b (seen_by (ByContext c) past) e) [
-    | true ↦ λ is_c. may_stand s c past e (asked_of scripts s past e.who c e follows.1 is_c is)
+    | true ↦ λ is_c. may_stand s c past e (asked_of scripts past s c e e.who follows.1 is_c is).2
     | false ↦ λ is_c. tt
   ] refl,
 )

@@ -22,7 +22,8 @@ use Rattle.wx_run.specs.declared.rounds.Rounded.TheVariants.{Moved, Idle, Spent}
 use Rattle.wx_run.specs.Hosts.{host_numbered, HaveEnded, IsFirstUnended, HostTurns, is_host_spent, spent_host}
 use Rattle.wx_run.specs.Slots.{HostsStand, AllWereStarted, first_spent_slot, first_unended_slot, all_turns_left, is_moved}
 use Rattle.wx_run.specs.Serving.{SpendsHost, HostsServed, FirstHeard}
-use Rattle.wx_run.proofs.ListLemmas.{set_same, element_at}
+use Rattle.wx_id.proofs.ListLemmas.{set_same}
+use Rattle.wx_run.proofs.ListLemmas.{element_at}
 use Rattle.wx_run.proofs.HostEntries.{Adds, turn_adds, called_so, turn_is_one, says_adds, says_one, adds_hosts, host_turns_stay, hosts_stay}
 use Rattle.wx_run.proofs.SlotLemmas.{ended_so, spent_so, stand_at, hosts_stand_set, spent_is_first, spent_split, unspent_behind}
 

@@ -70,10 +70,14 @@ with_faults count (r ∷ records) = with_faults (plus count (faults_in r)) recor
 
 -- the starter with these records taken over, and else as it was
 abbrev pub with_records : StarterState → List HostRecord → StarterState
-with_records starter more = record starter { records = starter.records ++ more; taken_over = with_faults starter.taken_over more }
+with_records starter more = record starter {
+  records = starter.records
+      ++ more;
+  taken_over = with_faults starter.taken_over more;
+}
 
--- All that was done with the starter: it took over one record for each host of the journal, in rising number, and each meets the
--- journal. So nothing else was started.
+-- All that was done with the starter: it took over one record for each host of the journal, in rising number, and each
+-- meets the journal. So nothing else was started.
 pub record HaveRecords (spent : Type 0) (world : WorldLists) (past : List Entry) (old new : StarterState) : Type 0 where
   pub more : List HostRecord
   pub taken_over : new ≡ with_records old more

@@ -39,7 +39,8 @@ pub record AreIn (n : ℕ) (past : List Entry) : Type 0 where
   pub below : AreBelow n past
 
 -- the first i endpoints have made their first entries, and stand behind them; none is spent
-pub record OpenedSoFar (world : WorldLists) (endpoints : List SceneEndpoint) (i : ℕ) (cursors : List CursorState) (past : List Entry) : Type 0 where
+pub record OpenedSoFar (world : WorldLists) (endpoints : List SceneEndpoint) (i : ℕ) (cursors : List CursorState)
+    (past : List Entry) : Type 0 where
   pub legal : EachAfter (FollowsMachine world) past
   pub begins : past ≡ reverse (opening_from 0 (take i endpoints))
   pub behind : cursors ≡ cursors_from (take i (scripts_at endpoints)) 0 past
@@ -50,11 +51,15 @@ pub record OpenedSoFar (world : WorldLists) (endpoints : List SceneEndpoint) (i 
   pub no_hosts : hosts past ≡ []
 
 -- behind its `enter` an endpoint has made its first `listen`, if there is one, and its cursor stands behind it
-abbrev pub IsOpenedBy : WorldLists → ContextNo → List Command → Option Listens → CursorState → List Entry → List Entry → Type 0
+abbrev pub IsOpenedBy : WorldLists → ContextNo → List Command → Option Listens → CursorState → List Entry → List Entry
+    → Type 0
 IsOpenedBy world c script None cursor before after = (cursor ≡ cursor_at_start script) × (after ≡ before)
-IsOpenedBy world c script (Some l) cursor before after = (moved : Bool) × IsStep world c (cursor_at_start script) cursor before after moved
+IsOpenedBy world c script (Some l) cursor before after = (moved : Bool)
+    × IsStep world c (cursor_at_start script) cursor before after moved
 
 -- An endpoint has come in under the next number, and made its first `listen`, if there is one.
-pub record IsOpened (world : WorldLists) (endpoint : SceneEndpoint) (cursor : CursorState) (before after : List Entry) : Type 0 where
+pub record IsOpened (world : WorldLists) (endpoint : SceneEndpoint) (cursor : CursorState) (before after : List Entry)
+    : Type 0 where
   pub follows : FollowsMachine world before (entered (numbered (contexts before)) endpoint.context)
-  pub opened : IsOpenedBy world (numbered (contexts before)) endpoint.script (first_listen endpoint.script) cursor (entered (numbered (contexts before)) endpoint.context ∷ before) after
+  pub opened : IsOpenedBy world (numbered (contexts before)) endpoint.script (first_listen endpoint.script) cursor
+      (entered (numbered (contexts before)) endpoint.context ∷ before) after

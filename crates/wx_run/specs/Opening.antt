@@ -1,5 +1,5 @@
--- The opening of a run: each endpoint of the scene comes in, in order, and makes its `listen` where its first command is a
--- `listen` that is not repeated.
+-- The opening of a run: each endpoint of the scene comes in, in order, and makes its `listen` where its first command
+-- is a `listen` that is not repeated.
 use Rattle.std.specs.Prelude.{ℕ, ◌+◌, List, [], ◌∷◌, ◌++◌, Option, Some, None, option_to_list}
 use Rattle.std.specs.Option.{option_map}
 use Rattle.wx_id.specs.declared.numbers.ContextNo.{ContextNo}
@@ -35,7 +35,8 @@ first_listen (c ∷ commands) = plain_listen c
 
 -- an endpoint's `enter`, and its `listen` where its first command is a `listen` that is not repeated
 abbrev pub first_entries : ContextNo → SceneEndpoint → List Entry
-first_entries c endpoint = entered c endpoint.context ∷ option_to_list (option_map (listened c) (first_listen endpoint.script))
+first_entries c endpoint = entered c endpoint.context ∷ option_to_list
+    (option_map (listened c) (first_listen endpoint.script))
 
 -- the first entries of these endpoints, which are numbered from n
 abbrev pub opening_from : ℕ → List SceneEndpoint → List Entry

@@ -26,8 +26,10 @@ Follows scripts past = EachAfter (FollowsScript scripts) past
 abbrev pub IsWithinLimit : List Entry → Type 0
 IsWithinLimit past = (c : ContextNo) → entries_by c past ≤ entry_limit
 
--- The journal is legal, the endpoints came in, their entries carry out the scripts, no more than they may, and the cursors stand behind them.
-pub record AllStand (world : WorldLists) (scripts : List (List Command)) (cursors : List CursorState) (past : List Entry) : Type 0 where
+-- The journal is legal, the endpoints came in, their entries carry out the scripts, no more than they may, and the
+-- cursors stand behind them.
+pub record AllStand (world : WorldLists) (scripts : List (List Command)) (cursors : List CursorState)
+    (past : List Entry) : Type 0 where
   pub legal : EachAfter (FollowsMachine world) past
   pub behind : AreBehind scripts cursors past
   pub follows : Follows scripts past
@@ -37,7 +39,8 @@ pub record AllStand (world : WorldLists) (scripts : List (List Command)) (cursor
 -- the first i endpoints can do nothing, and nothing was done
 pub record AreIdleBelow (scripts : List (List Command)) (i : ℕ) (before after : List Entry) : Type 0 where
   pub same : after ≡ before
-  pub idle : (c : ℕ) (script : List Command) → c < i → slice_get scripts c ≡ Some script → is_idle before (numbered c) (next_of script (numbered c) before) ≡ true
+  pub idle : (c : ℕ) (script : List Command) → c < i → slice_get scripts c ≡ Some script
+      → is_idle before (numbered c) (next_of script (numbered c) before) ≡ true
 
 -- where no entry was made, they are idle
 abbrev pub IdleUnlessMoved : List (List Command) → ℕ → List Entry → List Entry → Bool → Type 0
@@ -45,7 +48,8 @@ IdleUnlessMoved scripts i before after true = Unit {0}
 IdleUnlessMoved scripts i before after false = AreIdleBelow scripts i before after
 
 -- the first i endpoints have made their turns, and none is spent
-pub record RoundSoFar (world : WorldLists) (scripts : List (List Command)) (i : ℕ) (cursors : List CursorState) (before after : List Entry) (moved : Bool) : Type 0 where
+pub record RoundSoFar (world : WorldLists) (scripts : List (List Command)) (i : ℕ) (cursors : List CursorState)
+    (before after : List Entry) (moved : Bool) : Type 0 where
   pub stand : AllStand world scripts cursors after
   pub unspent : first_spent_in 0 cursors ≡ None
   pub turns : Turns (take i scripts) 0 before after
@@ -61,11 +65,12 @@ pub record SpendsEndpoint (scripts : List (List Command)) (n : ℕ) (before afte
   pub unspent : spent_of scripts past ≡ None
   pub spent : spent_of scripts after ≡ Some n
 
--- The endpoints' part of a round: every endpoint has made its turn and none is spent; or none can do anything; or the turns end
--- with the entry by which an endpoint is spent.
+-- The endpoints' part of a round: every endpoint has made its turn and none is spent; or none can do anything; or the
+-- turns end with the entry by which an endpoint is spent.
 abbrev pub IsRound : List (List Command) → List CursorState → List Entry → List Entry → Rounded → Type 0
 IsRound scripts cursors before after Moved = Turns scripts 0 before after × (first_spent_in 0 cursors ≡ None)
-IsRound scripts cursors before after Idle = Turns scripts 0 before after × (first_spent_in 0 cursors ≡ None) × AreIdle scripts before × (after ≡ before)
+IsRound scripts cursors before after Idle = Turns scripts 0 before after × (first_spent_in 0 cursors ≡ None)
+    × AreIdle scripts before × (after ≡ before)
 IsRound scripts cursors before after (Spent (Endpoint n)) = SpendsEndpoint scripts n before after
 IsRound scripts cursors before after (Spent (Host h)) = ⊥
 

@@ -29,15 +29,18 @@ Turn script c before after = MadeOne c before after ⊎ MadeNone script c before
 -- one turn of each of these endpoints, in rising number from n
 abbrev pub Turns : List (List Command) → ℕ → List Entry → List Entry → Type 0
 Turns [] n before after = after ≡ before
-Turns (script ∷ scripts) n before after = (between : List Entry) × Turn script (record { 0 = n }) before between × Turns scripts (n + 1) between after
+Turns (script ∷ scripts) n before after = (between : List Entry) × Turn script (record { 0 = n }) before between
+    × Turns scripts (n + 1) between after
 
--- A round: the turns of all endpoints and then of all hosts, in which someone made an entry; of the hosts those from number
--- `known` on alone can fail to start. Or, where nobody could make an entry, the first host that has not ended said a text, or
--- ended.
+-- A round: the turns of all endpoints and then of all hosts, in which someone made an entry; of the hosts those from
+-- number `known` on alone can fail to start. Or, where nobody could make an entry, the first host that has not ended
+-- said a text, or ended.
 pub data Round (known : ℕ) (scripts : List (List Command)) (before after : List Entry) : Type 0 where
-  of_all : (between : List Entry) → Turns scripts 0 before between → HostTurns known (length (hosts between)) between after
+  of_all : (between : List Entry) → Turns scripts 0 before between
+      → HostTurns known (length (hosts between)) between after
       → (after ≡ before → ⊥) → Round known scripts before after
-  of_first_host : AreIdle scripts before → NoneReady before → (h : HostNo) → IsFirstUnended before h → SaysOrEnds h before after
+  of_first_host : AreIdle scripts before → NoneReady before → (h : HostNo) → IsFirstUnended before h
+      → SaysOrEnds h before after
       → Round known scripts before after
 
 -- No endpoint can do anything, every host has ended, and no entry was made.
@@ -50,15 +53,16 @@ pub record IsOver (scripts : List (List Command)) (before after : List Entry) : 
 abbrev pub IsSpent : List (List Command) → List Entry → Type 0
 IsSpent scripts past = ((n : ℕ) × (spent_of scripts past ≡ Some n)) ⊎ ((h : HostNo) × (spent_host past ≡ Some h))
 
--- the first turns of a round: those of the first endpoints; or those of all endpoints and of the first hosts; or a whole round
+-- the first turns of a round: those of the first endpoints; or those of all endpoints and of the first hosts; or a
+-- whole round
 pub data FirstTurns (known : ℕ) (scripts : List (List Command)) (before after : List Entry) : Type 0 where
   of_endpoints : (count : ℕ) → Turns (take count scripts) 0 before after → FirstTurns known scripts before after
   of_hosts : (between : List Entry) (count : ℕ) → Turns scripts 0 before between → count ≤ length (hosts between)
       → HostTurns known count between after → FirstTurns known scripts before after
   whole : Round known scripts before after → FirstTurns known scripts before after
 
--- The first turns of a round were made up to the very entry by which someone is spent: after it stands no other, and before it
--- nobody is spent.
+-- The first turns of a round were made up to the very entry by which someone is spent: after it stands no other, and
+-- before it nobody is spent.
 pub record IsCutShort (known : ℕ) (scripts : List (List Command)) (before after : List Entry) : Type 0 where
   pub turns : FirstTurns known scripts before after
   pub last : Entry
@@ -67,8 +71,9 @@ pub record IsCutShort (known : ℕ) (scripts : List (List Command)) (before afte
   pub unspent : ¬ IsSpent scripts past
   pub spent : IsSpent scripts after
 
--- So many whole rounds, each of which leaves nobody spent; then nobody can do anything, or the last round is cut short. In the
--- first of them the hosts from number `known` on alone can fail to start, and in a later one those that were called in it.
+-- So many whole rounds, each of which leaves nobody spent; then nobody can do anything, or the last round is cut
+-- short. In the first of them the hosts from number `known` on alone can fail to start, and in a later one those that
+-- were called in it.
 abbrev pub Rounds : ℕ → ℕ → List (List Command) → List Entry → List Entry → Type 0
 Rounds zero known scripts before after = IsOver scripts before after ⊎ IsCutShort known scripts before after
 Rounds (suc n) known scripts before after =

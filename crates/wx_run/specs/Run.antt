@@ -27,8 +27,8 @@ HasEnd scripts past Stalled = IsStalled scripts past × HaveEnded past
 HasEnd scripts past (Spent (Endpoint n)) = spent_of scripts past ≡ Some n
 HasEnd scripts past (Spent (Host h)) = (spent_of scripts past ≡ None) × (spent_host past ≡ Some h)
 
--- The entries after the opening fall into rounds, so many whole ones. No host was called in the opening, so of the hosts those
--- alone can fail to start that were called in the same round.
+-- The entries after the opening fall into rounds, so many whole ones. No host was called in the opening, so of the
+-- hosts those alone can fail to start that were called in the same round.
 pub record IsInRounds (scene : SceneValue) (journal : List Entry) : Type 0 where
   pub count : ℕ
   pub in_rounds : Rounds count 0 (scripts_of scene) (reverse (opening scene)) (reverse journal)

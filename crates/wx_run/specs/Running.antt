@@ -19,8 +19,8 @@ use Rattle.wx_run.specs.Rounds.{Turns, Round, Rounds, IsOver, IsCutShort}
 use Rattle.wx_run.specs.Round.{AllStand, Follows, IsWithinLimit}
 use Rattle.wx_run.specs.Run.{HasEnd}
 
--- Nobody is spent, and every host has its slot, and its program was started, or could not be: so a round leaves all where
--- another may begin.
+-- Nobody is spent, and every host has its slot, and its program was started, or could not be: so a round leaves all
+-- where another may begin.
 pub record MayGoOn (cursors : List CursorState) (slots : List SlotState) (past : List Entry) : Type 0 where
   pub unspent : first_spent_in 0 cursors ≡ None
   pub hosts_unspent : first_spent_slot 0 slots ≡ None
@@ -41,10 +41,12 @@ abbrev pub AllTurns : ℕ → List (List Command) → List Entry → List Entry 
 AllTurns known scripts before after =
     (between : List Entry) × Turns scripts 0 before between × HostTurns known (length (hosts between)) between after
 
--- What a whole round comes to: all made their turns, and another round may begin; or that, and nobody can do anything; or the
--- round is cut short after the entry by which someone is spent, and so the run ends.
-abbrev pub IsWholeRound : ℕ → List (List Command) → List CursorState → List SlotState → List Entry → List Entry → Rounded → Type 0
-IsWholeRound known scripts cursors slots before after Moved = AllTurns known scripts before after × MayGoOn cursors slots after
+-- What a whole round comes to: all made their turns, and another round may begin; or that, and nobody can do anything;
+-- or the round is cut short after the entry by which someone is spent, and so the run ends.
+abbrev pub IsWholeRound : ℕ → List (List Command) → List CursorState → List SlotState → List Entry → List Entry
+    → Rounded → Type 0
+IsWholeRound known scripts cursors slots before after Moved = AllTurns known scripts before after
+    × MayGoOn cursors slots after
 IsWholeRound known scripts cursors slots before after Idle =
     (after ≡ before) × AreIdle scripts before × NoneReady before × MayGoOn cursors slots after
 IsWholeRound known scripts cursors slots before after (Spent who) =
@@ -54,17 +56,19 @@ IsWholeRound known scripts cursors slots before after (Spent who) =
 abbrev pub RoundOrNone : ℕ → List (List Command) → List Entry → List Entry → Type 0
 RoundOrNone known scripts before after = Round known scripts before after ⊎ (after ≡ before)
 
--- What the next round of a run comes to: another may begin; or the run is over; or the round is cut short after the entry by
--- which someone is spent, and so the run ends.
-abbrev pub IsNextRound : ℕ → List (List Command) → List CursorState → List SlotState → List Entry → List Entry → Rounded → Type 0
+-- What the next round of a run comes to: another may begin; or the run is over; or the round is cut short after the
+-- entry by which someone is spent, and so the run ends.
+abbrev pub IsNextRound : ℕ → List (List Command) → List CursorState → List SlotState → List Entry → List Entry → Rounded
+    → Type 0
 IsNextRound known scripts cursors slots before after Moved =
     RoundOrNone known scripts before after × MayGoOn cursors slots after
-IsNextRound known scripts cursors slots before after Idle = IsOver scripts before after × (first_spent_in 0 cursors ≡ None)
+IsNextRound known scripts cursors slots before after Idle = IsOver scripts before after
+    × (first_spent_in 0 cursors ≡ None)
 IsNextRound known scripts cursors slots before after (Spent who) =
     IsCutShort known scripts before after × HasEnd scripts after (end.Spent who)
 
--- More than as many turns as all may still make, where every host has its slot: an endpoint's turn may call a host, which may
--- make all of its turns.
+-- More than as many turns as all may still make, where every host has its slot: an endpoint's turn may call a host,
+-- which may make all of its turns.
 abbrev pub turns_in : List CursorState → List SlotState → ℕ
 turns_in cursors slots = (host_limit + 5) * work_in cursors + all_turns_left slots
 
@@ -80,16 +84,19 @@ pub record KeepsPlaces (old new : List SlotState) (before after : StarterState) 
   pub kept : after ≡ keeping (length new - length old) before
 
 -- Rounds led from one past to another, and so the run ends.
-pub record AreRounds (known : ℕ) (scripts : List (List Command)) (before after : List Entry) (end : RunEnd) : Type 0 where
+pub record AreRounds (known : ℕ) (scripts : List (List Command)) (before after : List Entry) (end : RunEnd)
+    : Type 0 where
   pub count : ℕ
   pub rounds : Rounds count known scripts before after
   pub follows : Follows scripts after
   pub within_limit : IsWithinLimit after
   pub ended : HasEnd scripts after end
 
--- Rounds led from one past to another so far: whatever rounds follow, they are rounds from the first. In the next one the hosts
--- from number `now` on alone can fail to start.
-pub record RoundsSoFar (known : ℕ) (scripts : List (List Command)) (slots : List SlotState) (before after : List Entry) : Type 0 where
+-- Rounds led from one past to another so far: whatever rounds follow, they are rounds from the first. In the next one
+-- the hosts from number `now` on alone can fail to start.
+pub record RoundsSoFar (known : ℕ) (scripts : List (List Command)) (slots : List SlotState) (before after : List Entry)
+    : Type 0 where
   pub now : ℕ
   pub started : WereStartedBelow now slots
-  pub rounds : (m : ℕ) (last : List Entry) → Rounds m now scripts after last → (n : ℕ) × Rounds n known scripts before last
+  pub rounds : (m : ℕ) (last : List Entry) → Rounds m now scripts after last → (n : ℕ)
+      × Rounds n known scripts before last

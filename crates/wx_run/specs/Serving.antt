@@ -18,23 +18,26 @@ pub record SpendsHost (h : HostNo) (before after : List Entry) : Type 0 where
   pub unspent : spent_host before ≡ None
   pub spent : spent_host after ≡ Some h
 
--- Every host made its turn, none is spent, and every program was started, or could not be: fewer turns are left, since an entry
--- was made or a program started; or no host could do anything. Or the turns end with the entry by which a host is spent. In
--- these turns no host below number `known` failed to start.
+-- Every host made its turn, none is spent, and every program was started, or could not be: fewer turns are left, since
+-- an entry was made or a program started; or no host could do anything. Or the turns end with the entry by which a
+-- host is spent. In these turns no host below number `known` failed to start.
 abbrev pub HostsServed : ℕ → List Entry → List Entry → List SlotState → List SlotState → Rounded → Type 0
 HostsServed known before after old new Moved =
-    HostTurns known (length (hosts before)) before after × (first_spent_slot 0 new ≡ None) × AllWereStarted new × (all_turns_left new < all_turns_left old)
+    HostTurns known (length (hosts before)) before after × (first_spent_slot 0 new ≡ None) × AllWereStarted new
+    × (all_turns_left new < all_turns_left old)
 HostsServed known before after old new Idle =
     (after ≡ before) × NoneReady before × AllWereStarted new × (first_spent_slot 0 new ≡ None) × (new ≡ old)
 HostsServed known before after old new (Spent (Endpoint n)) = ⊥
 HostsServed known before after old new (Spent (Host h)) =
-    (n : ℕ) × (past : List Entry) × (n < length (hosts before)) × HostTurns known n before past × HostTurn (known ≤ n) (host_numbered n) past after × SpendsHost h past after
+    (n : ℕ) × (past : List Entry) × (n < length (hosts before)) × HostTurns known n before past
+    × HostTurn (known ≤ n) (host_numbered n) past after × SpendsHost h past after
 
--- The first host that has not ended said a text or ended: then no host is spent, and every program was started, or could not
--- be; or by that entry a host is spent. Or every host has ended.
+-- The first host that has not ended said a text or ended: then no host is spent, and every program was started, or
+-- could not be; or by that entry a host is spent. Or every host has ended.
 abbrev pub FirstHeard : List Entry → List Entry → List SlotState → List SlotState → Rounded → Type 0
 FirstHeard before after old new Moved =
-    ((h : HostNo) × IsFirstUnended before h × SaysOrEnds h before after) × (first_spent_slot 0 new ≡ None) × AllWereStarted new × (all_turns_left new < all_turns_left old)
+    ((h : HostNo) × IsFirstUnended before h × SaysOrEnds h before after) × (first_spent_slot 0 new ≡ None)
+    × AllWereStarted new × (all_turns_left new < all_turns_left old)
 FirstHeard before after old new Idle = (after ≡ before) × HaveEnded before × (new ≡ old)
 FirstHeard before after old new (Spent (Endpoint n)) = ⊥
 FirstHeard before after old new (Spent (Host g)) =

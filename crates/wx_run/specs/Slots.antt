@@ -18,7 +18,8 @@ SlotsStand writing world past n (slot ∷ slots) =
     Stands writing world past (host_numbered n) slot × SlotsStand writing world past (n + 1) slots
 
 -- Every host has its slot, but those that were called since slots were last added, which have made no entry.
-pub record HostsStand (writing : Option Writing) (world : WorldLists) (past : List Entry) (slots : List SlotState) : Type 0 where
+pub record HostsStand (writing : Option Writing) (world : WorldLists) (past : List Entry) (slots : List SlotState)
+    : Type 0 where
   pub stand : SlotsStand writing world past 0 slots
   pub below : length slots ≤ length (hosts past)
   pub none_beyond : (h : HostNo) → length slots ≤ h.0 → entries_of h past ≡ 0

@@ -15,7 +15,8 @@ use Rattle.wx_endpoint.specs.History.{CarriesOn}
 use Rattle.wx_endpoint.specs.Turn.{CursorState}
 use Rattle.wx_run.specs.Cursors.{cursor_of, is_spent_at}
 
--- The journal is legal, context c came in, its entries carry out its script, its cursor stands behind them, and it is not spent.
+-- The journal is legal, context c came in, its entries carry out its script, its cursor stands behind them, and it is
+-- not spent.
 pub record IsReady (world : WorldLists) (c : ContextNo) (cursor : CursorState) (past : List Entry) : Type 0 where
   pub legal : EachAfter (FollowsMachine world) past
   pub given : c.0 < contexts past
@@ -24,7 +25,8 @@ pub record IsReady (world : WorldLists) (c : ContextNo) (cursor : CursorState) (
   pub unspent : is_spent_at cursor ≡ false
 
 -- Context c made the entry that its script asks for, with the machine's answer, and its cursor stands behind it.
-pub record Moves (world : WorldLists) (c : ContextNo) (cursor moved : CursorState) (before after : List Entry) : Type 0 where
+pub record Moves (world : WorldLists) (c : ContextNo) (cursor moved : CursorState) (before after : List Entry)
+    : Type 0 where
   pub entry : Entry
   pub own : entry.who ≡ ByContext c
   pub asked : MayCome before c (next_of cursor.script c before) entry

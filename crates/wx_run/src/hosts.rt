@@ -6,7 +6,8 @@ ghost use Rattle.wx_host_launch.specs.Records.{Writing};
 ghost use Rattle.wx_host_slot.specs.Slots.{host_limit, slots_of};
 ghost use Rattle.wx_run.specs.Hosts.{NoneReady};
 ghost use Rattle.wx_run.specs.Serving.{HostsServed, FirstHeard};
-ghost use Rattle.wx_run.specs.Slots.{HostsStand, AllWereStarted, AddsBehind, first_spent_slot, first_unended_slot, is_moved, all_turns_left, keeping, absorbing};
+ghost use Rattle.wx_run.specs.Slots.{HostsStand, AllWereStarted, AddsBehind, first_spent_slot, first_unended_slot};
+ghost use Rattle.wx_run.specs.Slots.{is_moved, all_turns_left, keeping, absorbing};
 
 use crate::rounds::Rounded;
 use std::alloc::Global;
@@ -63,13 +64,17 @@ pub fn serve_hosts<P: Starter>(
     slots: &mut Vec<HostSlot<P>>,
 ) -> Result<Rounded, NoMemory>
     requires legal { IsLegal desk.old.broker.world desk.old.broker.entries }
-    requires stand { (writing : Option Writing) × HostsStand writing desk.old.broker.world (reverse desk.old.broker.entries) (slots_of P.state slots.old.items) }
+    requires stand { (writing : Option Writing) × HostsStand writing desk.old.broker.world
+        (reverse desk.old.broker.entries) (slots_of P.state slots.old.items) }
     requires all { length slots.old.items ≡ length (hosts (reverse desk.old.broker.entries)) }
     requires unspent { first_spent_slot 0 (slots_of P.state slots.old.items) ≡ None }
-    ensures stand { (writing : Option Writing) → HostsStand writing desk.old.broker.world (reverse desk.old.broker.entries) (slots_of P.state slots.old.items)
-        → OnOk result (HostsStand writing desk.old.broker.world (reverse desk.new.broker.entries) (slots_of P.state slots.new.items)) }
+    ensures stand { (writing : Option Writing) → HostsStand writing desk.old.broker.world
+        (reverse desk.old.broker.entries) (slots_of P.state slots.old.items)
+        → OnOk result (HostsStand writing desk.old.broker.world (reverse desk.new.broker.entries)
+        (slots_of P.state slots.new.items)) }
     ensures served { (known : ℕ) → AllWereStarted (take known (slots_of P.state slots.old.items))
-        → IfOk result (HostsServed known (reverse desk.old.broker.entries) (reverse desk.new.broker.entries) (slots_of P.state slots.old.items) (slots_of P.state slots.new.items)) }
+        → IfOk result (HostsServed known (reverse desk.old.broker.entries) (reverse desk.new.broker.entries)
+        (slots_of P.state slots.old.items) (slots_of P.state slots.new.items)) }
     ensures same_size { length slots.new.items ≡ length slots.old.items }
     ensures legal { OnOk result (IsLegal desk.old.broker.world desk.new.broker.entries) }
     ensures same_world { OnOk result (desk.new.broker.world ≡ desk.old.broker.world) }
@@ -105,14 +110,18 @@ pub fn hear_first<P: Starter>(
     slots: &mut Vec<HostSlot<P>>,
 ) -> Result<Rounded, NoMemory>
     requires legal { IsLegal desk.old.broker.world desk.old.broker.entries }
-    requires stand { (writing : Option Writing) × HostsStand writing desk.old.broker.world (reverse desk.old.broker.entries) (slots_of P.state slots.old.items) }
+    requires stand { (writing : Option Writing) × HostsStand writing desk.old.broker.world
+        (reverse desk.old.broker.entries) (slots_of P.state slots.old.items) }
     requires all { length slots.old.items ≡ length (hosts (reverse desk.old.broker.entries)) }
     requires unspent { first_spent_slot 0 (slots_of P.state slots.old.items) ≡ None }
     requires started { AllWereStarted (slots_of P.state slots.old.items) }
     requires none_ready { NoneReady (reverse desk.old.broker.entries) }
-    ensures stand { (writing : Option Writing) → HostsStand writing desk.old.broker.world (reverse desk.old.broker.entries) (slots_of P.state slots.old.items)
-        → OnOk result (HostsStand writing desk.old.broker.world (reverse desk.new.broker.entries) (slots_of P.state slots.new.items)) }
-    ensures heard { IfOk result (FirstHeard (reverse desk.old.broker.entries) (reverse desk.new.broker.entries) (slots_of P.state slots.old.items) (slots_of P.state slots.new.items)) }
+    ensures stand { (writing : Option Writing) → HostsStand writing desk.old.broker.world
+        (reverse desk.old.broker.entries) (slots_of P.state slots.old.items)
+        → OnOk result (HostsStand writing desk.old.broker.world (reverse desk.new.broker.entries)
+        (slots_of P.state slots.new.items)) }
+    ensures heard { IfOk result (FirstHeard (reverse desk.old.broker.entries) (reverse desk.new.broker.entries)
+        (slots_of P.state slots.old.items) (slots_of P.state slots.new.items)) }
     ensures same_size { length slots.new.items ≡ length slots.old.items }
     ensures legal { OnOk result (IsLegal desk.old.broker.world desk.new.broker.entries) }
     ensures same_world { OnOk result (desk.new.broker.world ≡ desk.old.broker.world) }

@@ -4,7 +4,8 @@ ghost use Rattle.wx_host_slot.specs.Slots.{slots_of};
 ghost use Rattle.wx_run.specs.Cursors.{scripts_in, first_spent_in, all_left};
 ghost use Rattle.wx_run.specs.Slots.{HostsStand, WereStartedBelow};
 ghost use Rattle.wx_run.specs.Round.{AllStand, IsRound, RoundLessens};
-ghost use Rattle.wx_run.specs.Running.{AreReady, IsWholeRound, IsNextRound, turns_in, TurnsLessen, KeepsPlaces, AreRounds};
+ghost use Rattle.wx_run.specs.Running.{AreReady, IsWholeRound, IsNextRound, turns_in};
+ghost use Rattle.wx_run.specs.Running.{TurnsLessen, KeepsPlaces, AreRounds};
 
 use crate::hosts::{add_slots, hear_first, serve_hosts};
 use crate::outcome::RunEnd;
@@ -84,7 +85,8 @@ fn whole_round<P: Starter>(
         (slots_of P.state slots.new.items)) }
     ensures round { (known : ℕ) → WereStartedBelow known (slots_of P.state slots.old.items)
         → IfOk result (λ rounded. IsWholeRound known (scripts_in cursors.old.items) cursors.new.items
-        (slots_of P.state slots.new.items) (reverse desk.old.broker.entries) (reverse desk.new.broker.entries) rounded) }
+        (slots_of P.state slots.new.items) (reverse desk.old.broker.entries) (reverse desk.new.broker.entries)
+        rounded) }
     ensures less { IfOk result (λ rounded. TurnsLessen (turns_in cursors.old.items (slots_of P.state slots.old.items))
         (turns_in cursors.new.items (slots_of P.state slots.new.items)) rounded) }
     ensures kept { OnOk result (KeepsPlaces (slots_of P.state slots.old.items) (slots_of P.state slots.new.items)
@@ -120,7 +122,8 @@ fn next_round<P: Starter>(
         (slots_of P.state slots.new.items)) }
     ensures round { (known : ℕ) → WereStartedBelow known (slots_of P.state slots.old.items)
         → IfOk result (λ rounded. IsNextRound known (scripts_in cursors.old.items) cursors.new.items
-        (slots_of P.state slots.new.items) (reverse desk.old.broker.entries) (reverse desk.new.broker.entries) rounded) }
+        (slots_of P.state slots.new.items) (reverse desk.old.broker.entries) (reverse desk.new.broker.entries)
+        rounded) }
     ensures less { IfOk result (λ rounded. TurnsLessen (turns_in cursors.old.items (slots_of P.state slots.old.items))
         (turns_in cursors.new.items (slots_of P.state slots.new.items)) rounded) }
     ensures kept { OnOk result (KeepsPlaces (slots_of P.state slots.old.items) (slots_of P.state slots.new.items)

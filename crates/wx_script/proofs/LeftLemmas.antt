@@ -27,6 +27,7 @@ use Rattle.wx_script.specs.Places.{Place, outside, within, left, is_left, unbegu
 use Rattle.wx_script.specs.Carries.{MayCome, AskedOf, FollowsScript, IsAskedOf}
 use Rattle.wx_script.specs.Ends.{is_end, script_has_ended}
 use Rattle.wx_script.proofs.ByLemmas.{is_by-own}
+use Rattle.wx_machine.proofs.Lists.{there_or}
 
 unended_answer : (came : Heard) (text : Option (List ℕ)) → is_end (asks_answer came text) ≡ false
 unended_answer came None = refl
@@ -138,10 +139,6 @@ pub record Agrees (script : List Command) (c : ContextNo) (past : List Entry) : 
   pub entered : is_in (place_of script c past) ≡ true → is_there (context_of past c) ≡ true
   pub same : is_left (place_of script c past) ≡ has_left past c
 
-either_there : (x y : Option Context) → is_there (option_or x y) ≡ (is_there x || is_there y)
-either_there None y = refl
-either_there (Some x) y = refl
-
 came_in : (world : WorldLists) (past : List Entry) (c : ContextNo) (x : Call) (answer : Answer) → is_enter x ≡ true → may_make past (ByContext c) x ≡ true
     → answer ≡ answer_after world past (ByContext c) x → is_there (if_numbered c (brought (ByContext c) x answer)) ≡ true
 came_in world past c x answer is may answered = grind arith
@@ -153,7 +150,7 @@ left_before : (l t v b : Bool) → b ≡ false → l ≡ (l || (t && v && b))
 left_before l t v b other = grind arith
 
 still_there : (past : List Entry) (e : Entry) (c : ContextNo) → is_there (context_of past c) ≡ true → is_there (context_of (e ∷ past) c) ≡ true
-still_there past e c is = either_there (context_of past c) _ ∙ or_left (is_there (context_of past c)) _ is
+still_there past e c is = there_or (context_of past c) _ ∙ or_left (is_there (context_of past c)) _ is
 
 agrees_other : (script : List Command) (c : ContextNo) (past : List Entry) (e : Entry) → Agrees script c past → is_by e.who c ≡ false → Agrees script c (e ∷ past)
 unfolding place_of
@@ -172,7 +169,7 @@ came_first world script c past e outside own may follows there =
     let says : e.answer ≡ answer_after world past (ByContext c) e.call = subst (λ w. e.answer ≡ answer_after world past w e.call) own follows.answered in
     let here : is_there (if_numbered c (brought (ByContext c) e.call e.answer)) ≡ true = came_in world past c e.call e.answer may makes says in
     let now : is_there (if_numbered c (enters e)) ≡ true = subst (λ w. is_there (if_numbered c (brought w e.call e.answer)) ≡ true) (sym own) here in
-    either_there (context_of past c) _ ∙ or_right (is_there (context_of past c)) _ now
+    there_or (context_of past c) _ ∙ or_right (is_there (context_of past c)) _ now
 came_first world script c past e (within progress acts variables) own may follows there = still_there past e c (there refl)
 came_first world script c past e left own may follows there = still_there past e c (there refl)
 
@@ -196,7 +193,8 @@ same_script scripts n s t is at = cc
 same_number : (d c : ContextNo) → (eqb d.0 c.0) ≡ true → d ≡ c
 same_number d c is = let number : d.0 ≡ c.0 = eqb-true d.0 c.0 is in let make : ℕ → ContextNo = λ n. record { 0 = n } in ap make number
 
-asked_of : (scripts : List (List Command)) (past : List Entry) (script : List Command) (c : ContextNo) (e : Entry) (who : Who) → AskedOf scripts past who e → is_by who c ≡ true
+-- what an endpoint's script asks for, where its number is known
+pub asked_of : (scripts : List (List Command)) (past : List Entry) (script : List Command) (c : ContextNo) (e : Entry) (who : Who) → AskedOf scripts past who e → is_by who c ≡ true
     → slice_get scripts c.0 ≡ Some script → (who ≡ ByContext c) × MayCome past c (next_of script c past) e
 asked_of scripts past script c e (ByContext d) asked mine at =
     let same : d ≡ c = same_number d c mine in

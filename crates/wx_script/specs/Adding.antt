@@ -8,7 +8,14 @@ use Rattle.wx_script.specs.Names.{names_of, ids_of, file_names_of, endpoint_name
 use Rattle.wx_script.specs.Draft.{Draft}
 
 abbrev pub so_far : code.Draft → Draft
-so_far d = record { extensions = d.extensions.items; hosts = d.hosts.items; files = d.files.items; endpoints = d.endpoints.items; variables = d.variables }
+so_far d = record {
+  extensions = d.extensions.items;
+  hosts = d.hosts.items;
+  files = d.files.items;
+  endpoints =
+      d.endpoints.items;
+  variables = d.variables;
+}
 
 -- the names and ids by which the code finds what is declared are those of what is declared
 pub record IsIndexed (d : code.Draft) : Type 0 where

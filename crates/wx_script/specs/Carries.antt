@@ -33,6 +33,7 @@ AskedOf scripts past (ByHost h) e = Unit {0}
 abbrev pub FollowsScript : List (List Command) → List Entry → Entry → Type 0
 FollowsScript scripts past e = AskedOf scripts past e.who e
 
--- Each entry of a context is what its endpoint's script asks for at that place: each endpoint's entries carry out its script in order.
+-- Each entry of a context is what its endpoint's script asks for at that place: each endpoint's entries carry out its
+-- script in order.
 abbrev pub CarriesOut : List (List Command) → List Entry → Type 0
 CarriesOut scripts journal = EachAfter (FollowsScript scripts) (reverse journal)

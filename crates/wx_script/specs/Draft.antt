@@ -53,7 +53,11 @@ abbrev pub extension_added : Draft → List ℕ → List ℕ → Option (List �
 extension_added d name id file =
     if not (is_extension_id id) then Err kind.Id
     else if has_extension name id d.extensions then Err kind.Repeated
-    else Ok (record d { extensions = d.extensions ++ record { name = name; id = id; file = file } ∷ []; files = d.files ++ file_of (manifest.Extension (length d.extensions)) file })
+    else Ok (record d {
+      extensions = d.extensions ++ record { name = name; id = id; file = file } ∷ [];
+      files = d.files
+          ++ file_of (manifest.Extension (length d.extensions)) file;
+    })
 
 abbrev pub host_added : Draft → List ℕ → Result Draft SceneKind
 host_added d file =
@@ -84,10 +88,15 @@ context_of extensions (web document) = do
 abbrev pub endpoint_pushed : Draft → List ℕ → Context → Result Draft SceneKind
 endpoint_pushed d name context =
     if nat_le 1024 (length d.endpoints) then Err kind.Many
-    else Ok (record d { endpoints = d.endpoints ++ record { name = name; context = context; script = [] } ∷ []; variables = no_variables })
+    else Ok (record d {
+      endpoints = d.endpoints ++ record { name = name; context = context; script = [] }
+          ∷ [];
+      variables = no_variables;
+    })
 
 abbrev pub endpoint_added : Draft → List ℕ → NamedContext → Result Draft SceneKind
-endpoint_added d name context = if has_endpoint name d.endpoints then Err kind.Repeated else context_of d.extensions context >>= endpoint_pushed d name
+endpoint_added d name context = if has_endpoint name d.endpoints then Err kind.Repeated else context_of d.extensions
+    context >>= endpoint_pushed d name
 
 -- ---- commands
 
@@ -169,11 +178,14 @@ act_of extensions variables (echo n) = Ok (act.Echo n)
 -- the variables after an act
 abbrev pub variables_after : VariableNames → NamedAct → VariableNames
 variables_after variables (connect name target port) = record variables { channels = binding name variables.channels }
-variables_after variables (await_event event.Connect name) = record variables { channels = binding name variables.channels }
-variables_after variables (connect_native name host_name) = record variables { channels = binding name variables.channels }
+variables_after variables (await_event event.Connect name) = record variables
+    { channels = binding name variables.channels }
+variables_after variables (connect_native name host_name) = record variables
+    { channels = binding name variables.channels }
 variables_after variables (send name target text) = record variables { asked = binding name variables.asked }
 variables_after variables (send_native name host_name text) = record variables { asked = binding name variables.asked }
-variables_after variables (await_event event.Request name) = record variables { received = binding name variables.received }
+variables_after variables (await_event event.Request name) = record variables
+    { received = binding name variables.received }
 variables_after variables _ = variables
 
 -- what a command does, which a repeated one does again and again
@@ -200,10 +212,15 @@ with_command c (e ∷ f ∷ es) = e ∷ with_command c (f ∷ es)
 
 -- the last endpoint gets a command, and its script the variable that the command binds
 abbrev pub act_added : Draft → NamedCommand → Act → Draft
-act_added d c a = record d { endpoints = with_command (command_by c a) d.endpoints; variables = variables_after d.variables (named_act c) }
+act_added d c a = record d {
+  endpoints = with_command (command_by c a) d.endpoints;
+  variables = variables_after
+      d.variables (named_act c);
+}
 
 abbrev pub command_added : Draft → NamedCommand → Result Draft SceneKind
-command_added d c = if length d.endpoints == 0 then Err kind.Order else act_of d.extensions d.variables (named_act c) >>= (λ a. Ok (act_added d c a))
+command_added d c = if length d.endpoints == 0 then Err kind.Order else act_of d.extensions d.variables (named_act c)
+    >>= (λ a. Ok (act_added d c a))
 
 -- the scene so far with one more line, or what is wrong with the line
 abbrev pub line_added : Draft → Line → Result Draft SceneKind

@@ -32,11 +32,13 @@ script_has_ended script c past = is_end (next_of script c past)
 
 -- every script has ended
 abbrev pub IsDone : List (List Command) → List Entry → Type 0
-IsDone scripts past = (c : ℕ) (script : List Command) → slice_get scripts c ≡ Some script → script_has_ended script (numbered c) past ≡ true
+IsDone scripts past = (c : ℕ) (script : List Command) → slice_get scripts c ≡ Some script
+    → script_has_ended script (numbered c) past ≡ true
 
 -- no endpoint can do anything
 abbrev pub AreIdle : List (List Command) → List Entry → Type 0
-AreIdle scripts past = (c : ℕ) (script : List Command) → slice_get scripts c ≡ Some script → is_idle past (numbered c) (next_of script (numbered c) past) ≡ true
+AreIdle scripts past = (c : ℕ) (script : List Command) → slice_get scripts c ≡ Some script
+    → is_idle past (numbered c) (next_of script (numbered c) past) ≡ true
 
 -- the most entries that an endpoint makes in a run
 abbrev pub entry_limit : ℕ
@@ -49,7 +51,8 @@ is_spent script c past = nat_le entry_limit (entries_by c past) && not (script_h
 -- the first of these endpoints, numbered from n, that is spent
 abbrev pub spent_from : ℕ → List (List Command) → List Entry → Option ℕ
 spent_from n [] past = None
-spent_from n (script ∷ scripts) past = if is_spent script (numbered n) past then Some n else spent_from (n + 1) scripts past
+spent_from n (script ∷ scripts) past = if is_spent script (numbered n) past then Some n else spent_from (n + 1) scripts
+    past
 
 -- the first endpoint in the scene's order that is spent
 abbrev pub spent_of : List (List Command) → List Entry → Option ℕ

@@ -14,5 +14,6 @@ use Rattle.wx_script.specs.Ends.{script_has_ended}
 abbrev pub EndsByLeaving : Type 0
 EndsByLeaving =
     (world : WorldLists) (scripts : List (List Command)) (script : List Command) (c : ContextNo) (past : List Entry)
-    → EachAfter (FollowsMachine world) past → EachAfter (FollowsScript scripts) past → slice_get scripts c.0 ≡ Some script
+    → EachAfter (FollowsMachine world) past → EachAfter (FollowsScript scripts) past
+    → slice_get scripts c.0 ≡ Some script
     → script_has_ended script c past ≡ has_left past c

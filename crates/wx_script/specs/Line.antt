@@ -181,8 +181,16 @@ flags_at text =
     let connects = flag_at (codes "connect") (Some text) in
     let messages = flag_at (codes "message") connects.1 in
     let external_connects = flag_at (codes "external-connect") messages.1 in
-    let external_messages = flag_at (codes "external-message") external_connects.1 in
-    (record { connect = connects.0; message = messages.0; external_connect = external_connects.0; external_message = external_messages.0 }, external_messages.1)
+    let external_messages = flag_at (codes "external-message") external_connects.1 in (
+      record {
+        connect = connects.0;
+        message = messages.0;
+        external_connect = external_connects.0;
+        external_message =
+            external_messages.0;
+      },
+      external_messages.1,
+    )
 
 -- none | one flag or more
 unfoldable pub listen_at : List ℕ → Option NamedAct

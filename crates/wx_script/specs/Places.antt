@@ -81,9 +81,12 @@ begins_with variables (act.Connect v target name) = Some (calls (call.Connect ta
 begins_with variables (act.Post v text) = option_map (λ k. calls (call.Post k text)) (value_of variables.channels v)
 begins_with variables (act.Disconnect v) = option_map (λ k. calls (call.Disconnect k)) (value_of variables.channels v)
 begins_with variables (act.Send v target text) = Some (calls (call.Send target text))
-begins_with variables (act.Reply v text) = option_map (λ (r : Received). calls (call.Reply r.request text)) (value_of variables.received v)
-begins_with variables (act.ReplySame v) = option_map (λ (r : Received). answers (heard.Request r.request) r.entry) (value_of variables.received v)
-begins_with variables (act.Decline v) = option_map (λ (r : Received). calls (call.Decline r.request)) (value_of variables.received v)
+begins_with variables (act.Reply v text) = option_map (λ (r : Received). calls (call.Reply r.request text))
+    (value_of variables.received v)
+begins_with variables (act.ReplySame v) = option_map (λ (r : Received). answers (heard.Request r.request) r.entry)
+    (value_of variables.received v)
+begins_with variables (act.Decline v) = option_map (λ (r : Received). calls (call.Decline r.request))
+    (value_of variables.received v)
 begins_with variables (act.Native v name) = Some (calls (call.ConnectNative name))
 begins_with variables (act.Ask v name text) = Some (calls (call.SendNative name text))
 begins_with variables act.Take = Some (calls call.Take)
@@ -189,14 +192,16 @@ is_wanted variables _ _ = false
 -- what was awaited sets its variable: a connection, or a request, which this entry delivered
 abbrev pub set_by : Variables → Act → EntryNo → EventKind → Variables
 set_by variables (act.AwaitConnect v) e (kind.Connected k) = set_channel variables v (Some k)
-set_by variables (act.AwaitRequest v) e (kind.Asked r) = set_received variables v (Some (record { request = r; entry = e }))
+set_by variables (act.AwaitRequest v) e (kind.Asked r) = set_received variables v
+    (Some (record { request = r; entry = e }))
 set_by variables _ e _ = variables
 
 -- after an event that an await takes: an event that is not wanted is passed over
 abbrev pub behind_await : Variables → Act → List Act → Option Event → Place
 behind_await variables a acts None = within unbegun (a ∷ acts) variables
 behind_await variables a acts (Some event) =
-    if is_wanted variables a event.kind then within unbegun acts (set_by variables a event.entry event.kind) else within unbegun (a ∷ acts) variables
+    if is_wanted variables a event.kind then within unbegun acts (set_by variables a event.entry event.kind) else within
+    unbegun (a ∷ acts) variables
 
 -- after an event that an echo takes: a message and a request are to be answered, and every other event is passed over
 abbrev pub behind_kind : ℕ → EntryNo → EventKind → Progress
@@ -208,23 +213,28 @@ abbrev pub behind_event : ℕ → Option Event → Progress
 behind_event n None = echoing n
 behind_event n (Some event) = behind_kind n event.entry event.kind
 
--- Behind the first entry of an act. A command that binds a variable sets it to the number that it was answered with, and
--- clears it where it was refused.
+-- Behind the first entry of an act. A command that binds a variable sets it to the number that it was answered with,
+-- and clears it where it was refused.
 abbrev pub behind_act : Variables → Answer → Act → List Act → Place
 behind_act variables answer (act.Listen l) acts = within unbegun acts variables
-behind_act variables answer (act.Connect v target name) acts = within unbegun acts (set_channel variables v (channel_in answer))
+behind_act variables answer (act.Connect v target name) acts = within unbegun acts
+    (set_channel variables v (channel_in answer))
 behind_act variables answer (act.Post v text) acts = within unbegun acts variables
 behind_act variables answer (act.Disconnect v) acts = within unbegun acts variables
-behind_act variables answer (act.Send v target text) acts = within unbegun acts (set_asked variables v (request_in answer))
+behind_act variables answer (act.Send v target text) acts = within unbegun acts
+    (set_asked variables v (request_in answer))
 behind_act variables answer (act.Reply v text) acts = within unbegun acts variables
 behind_act variables answer (act.ReplySame v) acts = within unbegun acts variables
 behind_act variables answer (act.Decline v) acts = within unbegun acts variables
 behind_act variables answer (act.Native v name) acts = within unbegun acts (set_channel variables v (channel_in answer))
 behind_act variables answer (act.Ask v name text) acts = within unbegun acts (set_asked variables v (request_in answer))
 behind_act variables answer act.Take acts = within unbegun acts variables
-behind_act variables answer (act.AwaitConnect v) acts = behind_await variables (act.AwaitConnect v) acts (event_in answer)
-behind_act variables answer (act.AwaitMessage v) acts = behind_await variables (act.AwaitMessage v) acts (event_in answer)
-behind_act variables answer (act.AwaitRequest v) acts = behind_await variables (act.AwaitRequest v) acts (event_in answer)
+behind_act variables answer (act.AwaitConnect v) acts = behind_await variables (act.AwaitConnect v) acts
+    (event_in answer)
+behind_act variables answer (act.AwaitMessage v) acts = behind_await variables (act.AwaitMessage v) acts
+    (event_in answer)
+behind_act variables answer (act.AwaitRequest v) acts = behind_await variables (act.AwaitRequest v) acts
+    (event_in answer)
 behind_act variables answer (act.AwaitReply v) acts = behind_await variables (act.AwaitReply v) acts (event_in answer)
 behind_act variables answer (act.AwaitClose v) acts = behind_await variables (act.AwaitClose v) acts (event_in answer)
 behind_act variables answer (act.Echo n) acts = within (behind_event n (event_in answer)) (act.Echo n ∷ acts) variables
@@ -236,7 +246,8 @@ behind_first variables answer (a ∷ acts) = behind_act variables answer a acts
 -- after an answer of an echo, which ends it where it is the last
 abbrev pub behind_answer : ℕ → List Act → Variables → Place
 behind_answer n [] variables = within unbegun [] variables
-behind_answer n (a ∷ acts) variables = if nat_le n 1 then within unbegun acts variables else within (echoing (n - 1)) (a ∷ acts) variables
+behind_answer n (a ∷ acts) variables = if nat_le n 1 then within unbegun acts variables else within (echoing (n - 1))
+    (a ∷ acts) variables
 
 -- after the `enter` every act is left, and no variable is set
 abbrev pub at_start : List Command → Place
@@ -246,7 +257,8 @@ at_start script = within unbegun (acts_of script) (unset (length script))
 abbrev pub place_behind : List Command → Place → Answer → Place
 place_behind script outside answer = at_start script
 place_behind script (within unbegun acts variables) answer = behind_first variables answer (unskipped variables acts)
-place_behind script (within (echoing n) acts variables) answer = within (behind_event n (event_in answer)) acts variables
+place_behind script (within (echoing n) acts variables) answer = within (behind_event n (event_in answer)) acts
+    variables
 place_behind script (within (answering n came e) acts variables) answer = behind_answer n acts variables
 place_behind script left answer = left
 

@@ -1,5 +1,5 @@
--- Which scripts are sound: each variable has a number below the number of the script's commands, and each count is from 1
--- to 1,000,000.
+-- Which scripts are sound: each variable has a number below the number of the script's commands, and each count is
+-- from 1 to 1,000,000.
 use Rattle.std.specs.Prelude.{ℕ, ◌<◌, List, length, All, IsTrue}
 use Rattle.wx_script.specs.declared.script.Act.{Act}
 use Rattle.wx_script.specs.declared.script.Act.TheVariants as act

@@ -3,7 +3,9 @@ ghost use Rattle.std.specs.Prelude.{◌≡◌, MatchResult, OnOk, IfOk, ◌<◌,
 ghost use Rattle.wx_context.specs.Paths.{is_page_path};
 ghost use Rattle.wx_script.specs.Adding.{so_far, MakesDraft, MakesResult, IsIndexed};
 ghost use Rattle.wx_script.specs.Draft as rules;
-ghost use Rattle.wx_script.specs.Draft.{fresh, extension_added, host_added, declared, web_url, context_of, endpoint_added, used, json_of, target_of, await_of, act_of, named_act, command_by, with_command, variables_after, command_added, line_added};
+ghost use Rattle.wx_script.specs.Draft.{fresh, extension_added, host_added, declared, web_url, context_of};
+ghost use Rattle.wx_script.specs.Draft.{endpoint_added, used, json_of, target_of, await_of, act_of, named_act};
+ghost use Rattle.wx_script.specs.Draft.{command_by, with_command, variables_after, command_added, line_added};
 ghost use Rattle.wx_script.specs.Names.{has_extension, has_host, has_endpoint, id_under};
 ghost use Rattle.wx_script.specs.Spelling.{IsNamedContext, IsLine};
 ghost use Rattle.wx_script.specs.View.{target_view, act_view, command_view, context_view, line_view};

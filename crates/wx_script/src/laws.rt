@@ -2,7 +2,10 @@
 //! does nothing.
 ghost use Rattle.std.specs.Prelude.{◌≡◌, Ok, Err, [], ◌∷◌, ◌++◌, codes};
 ghost use Rattle.wx_script.specs.declared.scene.SceneKind.TheVariants as kind;
-ghost use Rattle.wx_script.specs.Examples.{HasFault, IsScene, ReadsTheSpelling, HasOneSpelling, TwoPages, NumberedVariables, CommentsPassedOver, Awaiting, RepeatBinds, LastLineUnended, Requests, OneName, Natives, Targets, Files, Documents, NoWebUrl, without_files, extension_x};
+ghost use Rattle.wx_script.specs.Examples.{HasFault, IsScene, ReadsTheSpelling, HasOneSpelling, TwoPages};
+ghost use Rattle.wx_script.specs.Examples.{NumberedVariables, CommentsPassedOver, Awaiting, RepeatBinds};
+ghost use Rattle.wx_script.specs.Examples.{LastLineUnended, Requests, OneName, Natives, Targets, Files};
+ghost use Rattle.wx_script.specs.Examples.{Documents, NoWebUrl, without_files, extension_x};
 ghost use Rattle.wx_script.specs.Scene.{scene_of, fault_at};
 
 /// Every line has one spelling.

@@ -3,7 +3,8 @@ ghost use Rattle.std.specs.Prelude.{◌≡◌, IfSome, IfNone, option_copied};
 ghost use Rattle.std.specs.Option.{option_map};
 ghost use Rattle.wx_script.specs.Line as forms;
 ghost use Rattle.wx_script.specs.Spelling.{spelling, IsLine};
-ghost use Rattle.wx_script.specs.View.{target_and_rest_view, act_view, command_view, document_view, context_view, line_view};
+ghost use Rattle.wx_script.specs.View.{target_and_rest_view, act_view, command_view};
+ghost use Rattle.wx_script.specs.View.{document_view, context_view, line_view};
 
 use crate::word::{
     count, frame_id, is_comment, is_given, is_word, name, name_and_rest, path, split_word, tab_id,

@@ -30,6 +30,7 @@ use Rattle.wx_script.specs.Places.{Variables, value_of, Next, Beginning, calls, 
 use Rattle.wx_script.specs.Carries.{MayCome, IsAskedOf, AskedOf, FollowsScript, CarriesOut}
 use Rattle.wx_script_laws.specs.Parts.{calls_by, UsesVariable, IsAnswer, Echoes, none, takes, answers, AreTakes, IsPart, IsBegunPart, IsBegun, MadeOf, entered, passed, with_part, HasParts}
 use Rattle.wx_script_laws.specs.Parts as parts
+use Rattle.wx_script.proofs.LeftLemmas.{asked_of}
 
 -- What was made where an endpoint stands
 
@@ -317,19 +318,12 @@ step script past c left e made shape asked = absurd asked
 
 -- A journal
 
-asked_of : (scripts : List (List Command)) (script : List Command) (past : List Entry) (who : Who) (c : ContextNo) (e : Entry) → AskedOf scripts past who e → is_by who c ≡ true → slice_get scripts c.0 ≡ Some script → MayCome past c (next_of script c past) e
-asked_of scripts script past (ByContext d) c e asked own is =
-    let here : IsAskedOf scripts past c e = subst (λ n. IsAskedOf scripts past (record { 0 = n }) e) (eqb-true d.0 c.0 own) asked in
-    let same : here.script ≡ script = (let both : Some here.script ≡ Some script = sym here.is_endpoint ∙ is in cc) in
-    subst (λ s. MayCome past c (next_of s c past) e) same here.asked
-asked_of scripts script past (ByHost h) c e asked own is = absurd cc
-
 shape_of : (scripts : List (List Command)) (script : List Command) (c : ContextNo) (past : List Entry) → slice_get scripts c.0 ≡ Some script → EachAfter (FollowsScript scripts) past → Shape script (place_of script c past) (calls_by c past)
 unfolding place_of
 shape_of scripts script c [] is carries = refl
 shape_of scripts script c (e ∷ past) is (before, follows) =
     elim (is_by e.who c) as (λ b. is_by e.who c ≡ b → Shape script (if b then place_behind script (place_of script c past) e.answer else place_of script c past) (cond b (e.call ∷ []) [] ++ calls_by c past)) [
-      | true ↦ λ own. step script past c (place_of script c past) e (calls_by c past) (shape_of scripts script c past is before) (asked_of scripts script past e.who c e follows own is)
+      | true ↦ λ own. step script past c (place_of script c past) e (calls_by c past) (shape_of scripts script c past is before) (asked_of scripts past script c e e.who follows own is).2
       | false ↦ λ other. shape_of scripts script c past is before
     ] refl
 

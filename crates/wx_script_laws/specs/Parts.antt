@@ -40,14 +40,15 @@ IsAnswer came x = ((text : List ℕ) × (x ≡ answer_by came text)) ⊎ (x ≡ 
 pub data Echoes : ℕ → List Call → Type 0 where
   none : Echoes 0 []
   takes : {n : ℕ} {calls : List Call} → Echoes n calls → Echoes n (call.Take ∷ calls)
-  answers : {n : ℕ} {calls : List Call} (came : Heard) (x : Call) → IsAnswer came x → Echoes n (call.Take ∷ calls) → Echoes (n + 1) (x ∷ call.Take ∷ calls)
+  answers : {n : ℕ} {calls : List Call} (came : Heard) (x : Call) → IsAnswer came x → Echoes n (call.Take ∷ calls)
+      → Echoes (n + 1) (x ∷ call.Take ∷ calls)
 
 -- one take or more
 abbrev pub AreTakes : List Call → Type 0
 AreTakes part = (n : ℕ) × (part ≡ call.Take ∷ replicate n call.Take)
 
--- the whole part of an act: its one call; for an await the takes up to the event that is awaited; for an echo the takes and
--- answers up to the last answer
+-- the whole part of an act: its one call; for an await the takes up to the event that is awaited; for an echo the
+-- takes and answers up to the last answer
 abbrev pub IsPart : Act → List Call → Type 0
 IsPart (act.Listen l) part = part ≡ call.Listen l ∷ []
 IsPart (act.Connect v target name) part = part ≡ call.Connect target name ∷ []
@@ -86,12 +87,15 @@ IsBegun (x ∷ begun) (a ∷ acts) = IsBegunPart a (x ∷ begun)
 -- The `enter`, and then one part for each of these acts that was not passed over, in their order.
 pub data MadeOf : List Act → List Call → Type 0 where
   entered : (x : Call) → IsTrue (is_enter x) → MadeOf [] (x ∷ [])
-  passed : {acts : List Act} {calls : List Call} (a : Act) → UsesVariable a → MadeOf acts calls → MadeOf (acts ++ a ∷ []) calls
-  with_part : {acts : List Act} {calls : List Call} (a : Act) (part : List Call) → IsPart a part → MadeOf acts calls → MadeOf (acts ++ a ∷ []) (part ++ calls)
+  passed : {acts : List Act} {calls : List Call} (a : Act) → UsesVariable a → MadeOf acts calls
+      → MadeOf (acts ++ a ∷ []) calls
+  with_part : {acts : List Act} {calls : List Call} (a : Act) (part : List Call) → IsPart a part → MadeOf acts calls
+      → MadeOf (acts ++ a ∷ []) (part ++ calls)
 
--- The calls of an endpoint with this script: none; or its `enter`, the parts of the first acts, and a part that was begun of the
--- act after them; or all of its parts, and its `leave`.
+-- The calls of an endpoint with this script: none; or its `enter`, the parts of the first acts, and a part that was
+-- begun of the act after them; or all of its parts, and its `leave`.
 pub data HasParts (script : List Command) : List Call → Type 0 where
   outside : HasParts script []
-  within : (done left : List Act) (begun whole : List Call) → acts_of script ≡ done ++ left → MadeOf done whole → IsBegun begun left → HasParts script (begun ++ whole)
+  within : (done left : List Act) (begun whole : List Call) → acts_of script ≡ done ++ left → MadeOf done whole
+      → IsBegun begun left → HasParts script (begun ++ whole)
   has_left : (whole : List Call) → MadeOf (acts_of script) whole → HasParts script (call.Leave ∷ whole)

@@ -16,7 +16,8 @@ LineTold answer line err result =
 abbrev pub ToldText : Status → List ℕ → SinkChange → SinkChange → Status → Type 0
 ToldText answer text out err result =
     ((result ≡ answer) × Gained out text × IsUntouched err)
-    ⊎ ((result ≡ status.WriteFault) × (text ≢ []) × GainedFront out text × HasFailed out × WasTried err write_fault_line)
+    ⊎ ((result ≡ status.WriteFault) × (text ≢ []) × GainedFront out text × HasFailed out
+    × WasTried err write_fault_line)
 
 -- The lines of an answer, if it has any, were written on `err`, or that write failed.
 abbrev pub LinesTold : Status → List ℕ → SinkChange → Status → Type 0

@@ -26,7 +26,8 @@ pub enum InputKind {
 pub enum Status {
     /// Every script ended, and the journal's text was written whole; of another command, yes.
     Done,
-    /// Some script has not ended, each such script waits with nothing pending, and the journal's text was written whole.
+    /// Some script has not ended, each such script waits with nothing pending, and the journal's text was written
+    /// whole.
     Stalled,
     /// A command's answer is no, and was written whole.
     No,
@@ -44,7 +45,8 @@ pub enum Status {
     WriteFault,
     /// Memory was refused.
     NoMemory,
-    /// An endpoint or a native host has made 65,536 entries and has not ended, and the journal's text was written whole.
+    /// An endpoint or a native host has made 65,536 entries and has not ended, and the journal's text was written
+    /// whole.
     Spent(SpentWho),
 }
 

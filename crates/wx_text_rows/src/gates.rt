@@ -46,8 +46,8 @@ fn web(alloc: Global, url: &str) -> Result<Context, Fail> {
     })
 }
 
-/// Who calls: a page of an extension, a content script of extension A, or a page of the web. A table of these has nothing
-/// to drop where a later row fails, as one of contexts would.
+/// Who calls: a page of an extension, a content script of extension A, or a page of the web. A table of these has
+/// nothing to drop where a later row fails, as one of contexts would.
 #[derive(Clone, Copy)]
 enum Caller {
     Page(&'static [u8]),

@@ -211,7 +211,8 @@ fn who_may_call_from_outside(rt: HostRuntime) {
     }
 }
 
-/// A manifest, whether `externally_connectable` is there, and whether extension A, B and the page https://a.b/x may call.
+/// A manifest, whether `externally_connectable` is there, and whether extension A, B and the page https://a.b/x may
+/// call.
 const ADMISSIONS: &[(&str, bool, bool, bool, bool)] = &[
     (
         r#"{"manifest_version":3,"name":"x","version":"1"}"#,

@@ -57,7 +57,8 @@ module _ {E : Type 0} (log : List (Element E)) where
   abbrev pub NumberFits : ℕ → (ℕ → ℕ) → (ℕ → ℕ) → ℕ → List (Element E) → Stage → Option ℕ → Type 0
   NumberFits seats keeper drawn i history stage None = stage ≡ Rests
   NumberFits seats keeper drawn i history stage (Some n) =
-      (n < seats) × (keeper n ≡ i) × (own n log ≡ own n history) × (drawn n ≡ length (own n history) + ticket_count stage)
+      (n < seats) × (keeper n ≡ i) × (own n log ≡ own n history)
+      × (drawn n ≡ length (own n history) + ticket_count stage)
 
   -- seat i has taken over these numbers, and keeps all elements of each
   abbrev pub JoinsFit : ℕ → (ℕ → ℕ) → ℕ → List (ℕ × List (Option E)) → Type 0

@@ -35,7 +35,15 @@ module _ {E F : Type 0} where
   -- what a seat knows that was joined
   abbrev pub spent_view : View E F
   spent_view =
-      record { fixed = None; history = []; other_history = []; number = None; joins = []; stage = Rests; known_seats = 0 }
+      record {
+        fixed = None;
+        history = [];
+        other_history = [];
+        number = None;
+        joins = [];
+        stage = Rests;
+        known_seats = 0;
+      }
 
   abbrev pub holdings : View E F → List (ℕ × List (Option E))
   holdings v = holdings_of v.number v.history v.joins
@@ -103,7 +111,8 @@ module _ {S E F : Type 0} where
 
     -- number: the seat has the number that it found, unless another seat drew one in between
     abbrev pub Numbers : TableStep S → SeatState S E F → ℕ → SeatState S E F → Type 0
-    Numbers st m found m' = (found ≡ st.first → (m' ≡ (record m.0 { number = Some found }, m.1)) × (own found m.0.history ≡ []))
+    Numbers st m found m' = (found ≡ st.first → (m' ≡ (record m.0 { number = Some found }, m.1))
+        × (own found m.0.history ≡ []))
         × (found ≢ st.first → m' ≡ m)
 
     -- learn: a look after a join

@@ -20,12 +20,29 @@ module _ {E F : Type 0} where
   -- what the first seat knows, which has the number 0
   abbrev pub first_view : F → View E F
   first_view f =
-      record { fixed = Some f; history = []; other_history = []; number = Some 0; joins = []; stage = Rests; known_seats = 0 }
+      record {
+        fixed = Some f;
+        history = [];
+        other_history = [];
+        number = Some 0;
+        joins = [];
+        stage = Rests;
+        known_seats
+            = 0;
+      }
 
   -- a seat with no number, which has seen as much and has joined nobody
   abbrev pub unnumbered_view : View E F → View E F
   unnumbered_view v =
-      record { fixed = v.fixed; history = v.history; other_history = []; number = None; joins = []; stage = Rests; known_seats = v.known_seats }
+      record {
+        fixed = v.fixed;
+        history = v.history;
+        other_history = [];
+        number = None;
+        joins = [];
+        stage = Rests;
+        known_seats = v.known_seats;
+      }
 
   -- what a new seat knows that was split off, with the number n
   abbrev pub split_view : View E F → ℕ → View E F

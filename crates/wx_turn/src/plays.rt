@@ -1,6 +1,7 @@
 //! The kinds of step on the table, each with what it tells the seat that makes it.
 ghost use Rattle.wx_turn.specs.Turns.{unnumbered_view};
-ghost use Rattle.wx_turn.specs.Steps.{Draws, Looks, GivesBack, Numbers, Learns, Counts, LooksLast, joined_view, spent_view};
+ghost use Rattle.wx_turn.specs.Steps.{Draws, Looks, GivesBack, Numbers, Learns};
+ghost use Rattle.wx_turn.specs.Steps.{Counts, LooksLast, joined_view, spent_view};
 
 use crate::stands::Stands;
 use crate::view::View;

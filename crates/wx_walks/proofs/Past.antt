@@ -7,6 +7,7 @@ use Rattle.wx_context.specs.declared.contexts.Context.{Context}
 use Rattle.wx_machine.specs.declared.entries.Entry.{Entry}
 use Rattle.wx_machine.specs.Contexts.{is_there, if_numbered, enters, context_of, contexts, is_enter}
 use Rattle.std.proofs.lemmas.List.{take_more, reverse-append, length-reverse}
+use Rattle.wx_machine.proofs.Lists.{there_or}
 
 -- one more entry stands at the head of the past
 pub reverse-push : {X : Type 0} (xs : List X) (x : X) → reverse (xs ++ x ∷ []) ≡ x ∷ reverse xs
@@ -19,10 +20,6 @@ past_more xs i d h = ap reverse (take_more xs i d h) ∙ reverse-push (take i xs
 -- the same, with the element first, for `grind` to match
 pub past_at_read : {X : Type 0} → (xs : List X) (i : ℕ) (d : X) → i < length xs → (get_or xs i d ≡ get_or xs i d) × (reverse (take (i + 1) xs) ≡ get_or xs i d ∷ reverse (take i xs))
 past_at_read xs i d h = (refl, past_more xs i d h)
-
-there_or : (o p : Option Context) → is_there (option_or o p) ≡ (is_there o || is_there p)
-there_or None p = refl
-there_or (Some x) p = refl
 
 -- what `came` says of one more entry
 pub came_more : (e : Entry) (past : List Entry) (c : ContextNo) → is_there (context_of (e ∷ past) c) ≡ (is_there (context_of past c) || is_there (if_numbered c (enters e)))

@@ -55,7 +55,8 @@ pub fn end_at_opening(before: &[Entry], e: &Entry, c: ContextNo) -> End
 
 /// What a context is to channel k after the entry, which may open the channel `next`, given what it was before.
 fn end_after(before: &[Entry], e: &Entry, next: u64, k: ChannelNo, c: ContextNo, was: End) -> End
-    ensures { result ≡ cond ((next == k.0) && is_some (opens (reverse before.now) e.now)) (end_in (opens (reverse before.now) e.now) c) was }
+    ensures { result ≡ cond ((next == k.0) && is_some (opens (reverse before.now) e.now))
+        (end_in (opens (reverse before.now) e.now) c) was }
 {
     if next == k.0 && opens(before, e) {
         end_at_opening(before, e, c)

@@ -32,7 +32,8 @@ fn receives_and_lives(
     before: &[Entry],
     e: &Entry,
 ) -> bool
-    ensures { result ≡ list_any (is_live (e.now ∷ reverse before.now)) (filter (is_receiver (reverse at.now) opener target.now Sort.Connection) (numbers_of (enters f.now))) }
+    ensures { result ≡ list_any (is_live (e.now ∷ reverse before.now))
+        (filter (is_receiver (reverse at.now) opener target.now Sort.Connection) (numbers_of (enters f.now))) }
 {
     match (&f.who, &f.call, &f.answer) {
         (Who::Context(_), Call::Enter(_), Answer::Entered(n)) => {
@@ -51,7 +52,8 @@ fn some_receiver_lives(
     before: &[Entry],
     e: &Entry,
 ) -> bool
-    ensures { result ≡ list_any (is_live (e.now ∷ reverse before.now)) (receivers_of (reverse at.now) opener target.now Sort.Connection) }
+    ensures { result ≡ list_any (is_live (e.now ∷ reverse before.now))
+        (receivers_of (reverse at.now) opener target.now Sort.Connection) }
 {
     let mut any = false;
     for f in at {
@@ -82,7 +84,8 @@ fn has_live_after(
     e: &Entry,
     was: bool,
 ) -> bool
-    ensures { result ≡ cond ((next == k.0) && is_some (opens (reverse at.now) f.now)) (has_live (e.now ∷ reverse before.now) (opens (reverse at.now) f.now)) was }
+    ensures { result ≡ cond ((next == k.0) && is_some (opens (reverse at.now) f.now))
+        (has_live (e.now ∷ reverse before.now) (opens (reverse at.now) f.now)) was }
 {
     if next == k.0 && opens(at, f) {
         has_live_at_opening(at, f, before, e)
@@ -126,7 +129,8 @@ pub fn ends_channel(before: &[Entry], e: &Entry, k: ChannelNo) -> bool
 
 /// The number of the entry e where it ends channel k, unless an entry before did.
 fn closed_after(before: &[Entry], e: &Entry, k: ChannelNo, was: Option<u64>) -> Option<u64>
-    ensures { result ≡ option_or was (cond (ends_channel (reverse before.now) e.now k.0) (Some (length before.now)) None) }
+    ensures { result ≡ option_or was (cond (ends_channel (reverse before.now) e.now k.0) (Some (length before.now))
+        None) }
 {
     match was {
         Some(n) => Some(n),

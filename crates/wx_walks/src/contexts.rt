@@ -2,7 +2,10 @@
 ghost use Rattle.std.specs.Prelude.{◌≡◌, ◌&&◌, bytes_eq, filter, true, reverse, option_copied};
 ghost use Rattle.std.specs.Option.{option_or};
 ghost use Rattle.std.specs.List.{list_any};
-ghost use Rattle.wx_machine.specs.Contexts.{is_by, is_there, if_numbered, enters, context_of, has_left, is_live, is_leave, contexts, listens_of, listens_after, extension_of, is_extension, is_page_of, is_frame, is_script_in, names, is_external, hears, reaches, reaches_from, is_receiver, receivers_of, numbers_of};
+ghost use Rattle.wx_machine.specs.Contexts.{is_by, is_there, if_numbered, enters, context_of, has_left, is_live};
+ghost use Rattle.wx_machine.specs.Contexts.{is_leave, contexts, listens_of, listens_after, extension_of};
+ghost use Rattle.wx_machine.specs.Contexts.{is_extension, is_page_of, is_frame, is_script_in, names, is_external};
+ghost use Rattle.wx_machine.specs.Contexts.{hears, reaches, reaches_from, is_receiver, receivers_of, numbers_of};
 
 use wx_context::{Context, Listens, Target};
 use wx_external::meant;
@@ -279,7 +282,8 @@ pub fn is_receiver(
 
 /// Whether the entry f brings in a context that is a receiver.
 fn brings_receiver(at: &[Entry], c: ContextNo, target: &Target, sort: Sort, f: &Entry) -> bool
-    ensures { result ≡ list_any (λ _. true) (filter (is_receiver (reverse at.now) c target.now sort) (numbers_of (enters f.now))) }
+    ensures { result ≡ list_any (λ _. true)
+        (filter (is_receiver (reverse at.now) c target.now sort) (numbers_of (enters f.now))) }
 {
     match (&f.who, &f.call, &f.answer) {
         (Who::Context(_), Call::Enter(_), Answer::Entered(n)) => is_receiver(

@@ -5,7 +5,10 @@ ghost use Rattle.std.specs.List.{list_any, range_with_len};
 ghost use Rattle.wx_machine.specs.Channels.{channels, channel, opens, end_in};
 ghost use Rattle.wx_machine.specs.Requests.{requests, asks};
 ghost use Rattle.wx_machine.specs.Contexts.{is_by};
-ghost use Rattle.wx_machine.specs.Events.{connected, message, disconnected_on, disconnected, asked, replied, unanswered_on, unanswered, of_channels, of_requests, delivered, taken, goes_to, work_by, said, answered, is_dropped, drops_by, is_of, is_waiting, same_event, same_kind, event_in, pending, marked, on, is_receiving};
+ghost use Rattle.wx_machine.specs.Events.{connected, message, disconnected_on, disconnected, asked, replied};
+ghost use Rattle.wx_machine.specs.Events.{unanswered_on, unanswered, of_channels, of_requests, delivered, taken};
+ghost use Rattle.wx_machine.specs.Events.{goes_to, work_by, said, answered, is_dropped, drops_by, is_of, is_waiting};
+ghost use Rattle.wx_machine.specs.Events.{same_event, same_kind, event_in, pending, marked, on, is_receiving};
 ghost use Rattle.wx_machine.specs.Each.{first};
 
 use crate::channels::{end_at_opening, end_of};
@@ -159,7 +162,8 @@ fn waiting_said(
     who: Who,
     c: ContextNo,
 ) -> Option<Event>
-    ensures { result ≡ first (filter (is_waiting (reverse entries.now) c) (map (marked i) (said (reverse before.now) who (work_by (reverse before.now) who) c))) }
+    ensures { result ≡ first (filter (is_waiting (reverse entries.now) c)
+        (map (marked i) (said (reverse before.now) who (work_by (reverse before.now) who) c))) }
 {
     match work_by(before, who) {
         Some(Work::Channel(k)) => waiting_if(
@@ -181,7 +185,8 @@ fn waiting_message(
     e: &Entry,
     c: ContextNo,
 ) -> Option<Event>
-    ensures { result ≡ first (filter (is_waiting (reverse entries.now) c) (map (marked i) (message (reverse before.now) e.now.who e.now.call e.now.answer c))) }
+    ensures { result ≡ first (filter (is_waiting (reverse entries.now) c)
+        (map (marked i) (message (reverse before.now) e.now.who e.now.call e.now.answer c))) }
 {
     match (&e.call, &e.answer) {
         (Call::Post(k, _), Answer::Posted) => waiting_if(
@@ -205,7 +210,8 @@ fn waiting_disconnected_on(
     c: ContextNo,
     k: ChannelNo,
 ) -> Option<Event>
-    ensures { result ≡ first (filter (is_waiting (reverse entries.now) c) (map (marked i) (disconnected_on (reverse before.now) e.now c k.0))) }
+    ensures { result ≡ first (filter (is_waiting (reverse entries.now) c)
+        (map (marked i) (disconnected_on (reverse before.now) e.now c k.0))) }
 {
     waiting_if(
         goes_to(before, k, e.who, c) && closes(before, e, k),
@@ -235,7 +241,9 @@ fn waiting_every_disconnected(
     e: &Entry,
     c: ContextNo,
 ) -> Option<Event>
-    ensures { result ≡ first (filter (is_waiting (reverse entries.now) c) (map (marked i) (flat_map (disconnected_on (reverse before.now) e.now c) (range_with_len 0 (length (channels (reverse before.now))))))) }
+    ensures { result ≡ first (filter (is_waiting (reverse entries.now) c)
+        (map (marked i) (flat_map (disconnected_on (reverse before.now) e.now c)
+        (range_with_len 0 (length (channels (reverse before.now))))))) }
 {
     let mut found = None;
     for k in 0..channels::count(before) {
@@ -256,7 +264,8 @@ fn waiting_disconnected(
     e: &Entry,
     c: ContextNo,
 ) -> Option<Event>
-    ensures { result ≡ first (filter (is_waiting (reverse entries.now) c) (map (marked i) (disconnected (reverse before.now) e.now e.now.call c))) }
+    ensures { result ≡ first (filter (is_waiting (reverse entries.now) c)
+        (map (marked i) (disconnected (reverse before.now) e.now e.now.call c))) }
 {
     match &e.call {
         Call::Disconnect(k) => waiting_disconnected_on(entries, i, before, e, c, *k),
@@ -277,7 +286,8 @@ fn waiting_connected(
     e: &Entry,
     c: ContextNo,
 ) -> Option<Event>
-    ensures { result ≡ first (filter (is_waiting (reverse entries.now) c) (map (marked i) (connected (length (channels (reverse before.now))) (opens (reverse before.now) e.now) c))) }
+    ensures { result ≡ first (filter (is_waiting (reverse entries.now) c)
+        (map (marked i) (connected (length (channels (reverse before.now))) (opens (reverse before.now) e.now) c))) }
 {
     if is_told_connected(before, e, c) {
         let k = ChannelNo(channels::count(before));
@@ -296,7 +306,8 @@ fn waiting_of_channels(
     e: &Entry,
     c: ContextNo,
 ) -> Option<Event>
-    ensures { result ≡ first (filter (is_waiting (reverse entries.now) c) (map (marked i) (of_channels (reverse before.now) e.now c))) }
+    ensures { result ≡ first (filter (is_waiting (reverse entries.now) c)
+        (map (marked i) (of_channels (reverse before.now) e.now c))) }
 {
     let opened = waiting_connected(entries, i, before, e, c);
     let posted = waiting_message(entries, i, before, e, c);
@@ -312,7 +323,8 @@ fn waiting_asked(
     e: &Entry,
     c: ContextNo,
 ) -> Option<Event>
-    ensures { result ≡ first (filter (is_waiting (reverse entries.now) c) (map (marked i) (asked (length (requests (reverse before.now))) (asks (reverse before.now) e.now) c))) }
+    ensures { result ≡ first (filter (is_waiting (reverse entries.now) c)
+        (map (marked i) (asked (length (requests (reverse before.now))) (asks (reverse before.now) e.now) c))) }
 {
     if is_asked_at(before, e, c) {
         let r = RequestNo(requests::count(before));
@@ -330,7 +342,8 @@ fn waiting_answered(
     who: Who,
     c: ContextNo,
 ) -> Option<Event>
-    ensures { result ≡ first (filter (is_waiting (reverse entries.now) c) (map (marked i) (answered (reverse before.now) (work_by (reverse before.now) who) c))) }
+    ensures { result ≡ first (filter (is_waiting (reverse entries.now) c)
+        (map (marked i) (answered (reverse before.now) (work_by (reverse before.now) who) c))) }
 {
     match work_by(before, who) {
         Some(Work::Request(r)) => waiting_if(
@@ -352,7 +365,8 @@ fn waiting_replied(
     e: &Entry,
     c: ContextNo,
 ) -> Option<Event>
-    ensures { result ≡ first (filter (is_waiting (reverse entries.now) c) (map (marked i) (replied (reverse before.now) e.now.who e.now.call e.now.answer c))) }
+    ensures { result ≡ first (filter (is_waiting (reverse entries.now) c)
+        (map (marked i) (replied (reverse before.now) e.now.who e.now.call e.now.answer c))) }
 {
     match (&e.call, &e.answer) {
         (Call::Reply(r, _), Answer::First) => waiting_if(
@@ -376,7 +390,8 @@ fn waiting_unanswered_on(
     c: ContextNo,
     r: RequestNo,
 ) -> Option<Event>
-    ensures { result ≡ first (filter (is_waiting (reverse entries.now) c) (map (marked i) (unanswered_on (reverse before.now) e.now c r.0))) }
+    ensures { result ≡ first (filter (is_waiting (reverse entries.now) c)
+        (map (marked i) (unanswered_on (reverse before.now) e.now c r.0))) }
 {
     waiting_if(
         !is_by(e.who, c) && is_asker(before, r, c) && settles(before, e, r),
@@ -396,7 +411,9 @@ fn waiting_every_unanswered(
     e: &Entry,
     c: ContextNo,
 ) -> Option<Event>
-    ensures { result ≡ first (filter (is_waiting (reverse entries.now) c) (map (marked i) (flat_map (unanswered_on (reverse before.now) e.now c) (range_with_len 0 (length (requests (reverse before.now))))))) }
+    ensures { result ≡ first (filter (is_waiting (reverse entries.now) c)
+        (map (marked i) (flat_map (unanswered_on (reverse before.now) e.now c)
+        (range_with_len 0 (length (requests (reverse before.now))))))) }
 {
     let mut found = None;
     for r in 0..requests::count(before) {
@@ -417,7 +434,8 @@ fn waiting_unanswered(
     e: &Entry,
     c: ContextNo,
 ) -> Option<Event>
-    ensures { result ≡ first (filter (is_waiting (reverse entries.now) c) (map (marked i) (unanswered (reverse before.now) e.now e.now.call c))) }
+    ensures { result ≡ first (filter (is_waiting (reverse entries.now) c)
+        (map (marked i) (unanswered (reverse before.now) e.now e.now.call c))) }
 {
     match &e.call {
         Call::Decline(r) => waiting_unanswered_on(entries, i, before, e, c, *r),
@@ -439,7 +457,8 @@ fn waiting_of_requests(
     e: &Entry,
     c: ContextNo,
 ) -> Option<Event>
-    ensures { result ≡ first (filter (is_waiting (reverse entries.now) c) (map (marked i) (of_requests (reverse before.now) e.now c))) }
+    ensures { result ≡ first (filter (is_waiting (reverse entries.now) c)
+        (map (marked i) (of_requests (reverse before.now) e.now c))) }
 {
     let made = waiting_asked(entries, i, before, e, c);
     let replied = waiting_replied(entries, i, before, e, c);
@@ -474,7 +493,8 @@ fn found_after(
     c: ContextNo,
 ) -> Option<Event>
     requires { i ≡ length before.now }
-    ensures { result ≡ option_or found (first (filter (is_waiting (reverse entries.now) c) (delivered (reverse before.now) e.now c))) }
+    ensures { result ≡ option_or found (first (filter (is_waiting (reverse entries.now) c)
+        (delivered (reverse before.now) e.now c))) }
 {
     match found {
         Some(event) => Some(event),

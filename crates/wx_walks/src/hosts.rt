@@ -48,7 +48,8 @@ fn work_at_start(before: &[Entry], e: &Entry) -> Option<Work>
 
 /// What host h works for after the entry, which may start the host `next`, given what was so before.
 fn work_after(before: &[Entry], e: &Entry, next: u64, h: HostNo, was: Option<Work>) -> Option<Work>
-    ensures { result ≡ cond ((next == h.0) && is_some (starts (reverse before.now) e.now)) (work_in (starts (reverse before.now) e.now)) was }
+    ensures { result ≡ cond ((next == h.0) && is_some (starts (reverse before.now) e.now))
+        (work_in (starts (reverse before.now) e.now)) was }
 {
     if next == h.0 && starts(before, e) {
         work_at_start(before, e)

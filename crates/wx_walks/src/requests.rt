@@ -4,7 +4,8 @@ ghost use Rattle.std.specs.Option.{option_or};
 ghost use Rattle.std.specs.List.{list_any};
 ghost use Rattle.wx_machine.specs.Contexts.{is_by, is_live, is_receiver, receivers_of, numbers_of, enters};
 ghost use Rattle.wx_machine.specs.Requests.{asks, requests, request, is_asker, is_asked};
-ghost use Rattle.wx_machine.specs.Settling.{is_decline, has_declined, is_open_to, has_open, ends_request, settled_at, is_settled, settles};
+ghost use Rattle.wx_machine.specs.Settling.{is_decline, has_declined, is_open_to, has_open};
+ghost use Rattle.wx_machine.specs.Settling.{ends_request, settled_at, is_settled, settles};
 
 use crate::closing::is_live_after;
 use crate::contexts::{is_by, is_live, is_receiver};
@@ -71,7 +72,8 @@ fn is_asker_after(
     c: ContextNo,
     was: bool,
 ) -> bool
-    ensures { result ≡ cond ((next == r.0) && is_some (asks (reverse before.now) e.now)) (is_asker (asks (reverse before.now) e.now) c) was }
+    ensures { result ≡ cond ((next == r.0) && is_some (asks (reverse before.now) e.now))
+        (is_asker (asks (reverse before.now) e.now) c) was }
 {
     if next == r.0 && asks(before, e) {
         is_asker_at(before, e, c)
@@ -96,7 +98,8 @@ pub fn is_asker(entries: &[Entry], r: RequestNo, c: ContextNo) -> bool
     is
 }
 
-/// Whether request r was sent to context c, after the entry, which may make the request `next`, given what was so before.
+/// Whether request r was sent to context c, after the entry, which may make the request `next`, given what was so
+/// before.
 fn is_asked_after(
     before: &[Entry],
     e: &Entry,
@@ -105,7 +108,8 @@ fn is_asked_after(
     c: ContextNo,
     was: bool,
 ) -> bool
-    ensures { result ≡ cond ((next == r.0) && is_some (asks (reverse before.now) e.now)) (is_asked (asks (reverse before.now) e.now) c) was }
+    ensures { result ≡ cond ((next == r.0) && is_some (asks (reverse before.now) e.now))
+        (is_asked (asks (reverse before.now) e.now) c) was }
 {
     if next == r.0 && asks(before, e) {
         is_asked_at(before, e, c)
@@ -132,7 +136,8 @@ pub fn is_asked(entries: &[Entry], r: RequestNo, c: ContextNo) -> bool
 
 /// Whether context c, a live receiver of request r, declines it by the entry. The call is tested before any walk.
 fn declines(before: &[Entry], e: &Entry, r: RequestNo, c: ContextNo) -> bool
-    ensures { result ≡ (is_decline r.0 e.now.call && is_by e.now.who c && is_live (reverse before.now) c && is_asked (request (reverse before.now) r.0) c) }
+    ensures { result ≡ (is_decline r.0 e.now.call && is_by e.now.who c && is_live (reverse before.now) c
+        && is_asked (request (reverse before.now) r.0) c) }
 {
     match &e.call {
         Call::Decline(j) => {
@@ -171,7 +176,8 @@ fn receives_and_is_open(
     e: &Entry,
     r: RequestNo,
 ) -> bool
-    ensures { result ≡ list_any (is_open_to (e.now ∷ reverse before.now) r.0) (filter (is_receiver (reverse at.now) asker target.now Sort.Message) (numbers_of (enters f.now))) }
+    ensures { result ≡ list_any (is_open_to (e.now ∷ reverse before.now) r.0)
+        (filter (is_receiver (reverse at.now) asker target.now Sort.Message) (numbers_of (enters f.now))) }
 {
     match (&f.who, &f.call, &f.answer) {
         (Who::Context(_), Call::Enter(_), Answer::Entered(n)) => {
@@ -191,7 +197,8 @@ fn some_receiver_is_open(
     e: &Entry,
     r: RequestNo,
 ) -> bool
-    ensures { result ≡ list_any (is_open_to (e.now ∷ reverse before.now) r.0) (receivers_of (reverse at.now) asker target.now Sort.Message) }
+    ensures { result ≡ list_any (is_open_to (e.now ∷ reverse before.now) r.0)
+        (receivers_of (reverse at.now) asker target.now Sort.Message) }
 {
     let mut any = false;
     for f in at {
@@ -222,7 +229,8 @@ fn has_open_after(
     r: RequestNo,
     was: bool,
 ) -> bool
-    ensures { result ≡ cond ((next == r.0) && is_some (asks (reverse at.now) f.now)) (has_open (e.now ∷ reverse before.now) r.0 (asks (reverse at.now) f.now)) was }
+    ensures { result ≡ cond ((next == r.0) && is_some (asks (reverse at.now) f.now))
+        (has_open (e.now ∷ reverse before.now) r.0 (asks (reverse at.now) f.now)) was }
 {
     if next == r.0 && asks(at, f) {
         has_open_at(at, f, before, e, r)
@@ -276,7 +284,8 @@ pub fn ends_request(before: &[Entry], e: &Entry, r: RequestNo) -> bool
 
 /// The number of the entry e where it ends request r, unless an entry before did.
 fn settled_after(before: &[Entry], e: &Entry, r: RequestNo, was: Option<u64>) -> Option<u64>
-    ensures { result ≡ option_or was (cond (ends_request (reverse before.now) e.now r.0) (Some (length before.now)) None) }
+    ensures { result ≡ option_or was (cond (ends_request (reverse before.now) e.now r.0) (Some (length before.now))
+        None) }
 {
     match was {
         Some(n) => Some(n),

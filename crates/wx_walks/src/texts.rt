@@ -4,7 +4,8 @@ ghost use Rattle.std.specs.Option.{option_or};
 ghost use Rattle.std.specs.List.{list_any};
 ghost use Rattle.wx_machine.specs.Each.{first};
 ghost use Rattle.wx_machine.specs.Hosts.{is_by_host};
-ghost use Rattle.wx_machine.specs.Texts.{has_ended, is_host_end, is_text_for, text_taken, has_taken, texts_left, next_text, is_over, was_told_end, knows_end, was_said_closed, said_closed};
+ghost use Rattle.wx_machine.specs.Texts.{has_ended, is_host_end, is_text_for, text_taken, has_taken, texts_left};
+ghost use Rattle.wx_machine.specs.Texts.{next_text, is_over, was_told_end, knows_end, was_said_closed, said_closed};
 
 use crate::closing::is_closed;
 use crate::hosts::{count, is_by_host, is_for_channel, work_of};
@@ -74,7 +75,9 @@ fn left_after(
     e: &Entry,
     h: HostNo,
 ) -> Option<EntryNo>
-    ensures { result ≡ option_or found (first (filter (λ n. not (has_taken (reverse entries.now) h n)) (cond (is_text_for (reverse before.now) e.now.who e.now.call e.now.answer h) (record { 0 = length before.now } ∷ []) []))) }
+    ensures { result ≡ option_or found (first (filter (λ n. not (has_taken (reverse entries.now) h n))
+        (cond (is_text_for (reverse before.now) e.now.who e.now.call e.now.answer h)
+        (record { 0 = length before.now } ∷ []) []))) }
 {
     if found.is_some() {
         return found;

@@ -14,7 +14,10 @@ rounds_flag = record (new_rule (codes "rounds")) { long = Some (codes "rounds");
 
 -- a command of this name with neither help nor a version
 abbrev pub bare : List ℕ → App
-bare name = record (new_app name) { top = record (new_app name).top { disable_help_flag = true; disable_version_flag = true } }
+bare name = record (new_app name) {
+  top = record (new_app name).top
+      { disable_help_flag = true; disable_version_flag = true };
+}
 
 -- `match PATTERN URL`
 abbrev pub match_reader : App

@@ -64,14 +64,17 @@ pub record FileContent : Type 0 where
   pub content : Content
 
 -- what follows, unless the file with this number is refused
-abbrev pub unless_refused : ℕ → Result WorldLists FileKind → (WorldLists → Result WorldLists FileRefusal) → Result WorldLists FileRefusal
+abbrev pub unless_refused : ℕ → Result WorldLists FileKind → (WorldLists → Result WorldLists FileRefusal)
+    → Result WorldLists FileRefusal
 unless_refused n (Ok world) f = f world
 unless_refused n (Err kind) f = Err (record { file = n; kind = kind })
 
--- the world with what stands in these files, of which the first has the number n: one after another, up to the first refusal
+-- the world with what stands in these files, of which the first has the number n: one after another, up to the first
+-- refusal
 abbrev pub files_added : SceneValue → ℕ → WorldLists → List FileContent → Result WorldLists FileRefusal
 files_added scene n world [] = Ok world
-files_added scene n world (this ∷ others) = unless_refused n (file_added scene this.file this.content world) (λ more. files_added scene (n + 1) more others)
+files_added scene n world (this ∷ others) = unless_refused n (file_added scene this.file this.content world)
+    (λ more. files_added scene (n + 1) more others)
 
 -- the same from the world that holds nothing
 abbrev pub world_from : SceneValue → List FileContent → Result WorldLists FileRefusal

@@ -13,8 +13,8 @@ text_or_empty text = unwrap_or text []
 abbrev pub extension_file : Option SceneExtension → List ℕ
 extension_file extension = option_map_or (λ (e : SceneExtension). text_or_empty e.file) extension []
 
--- The name under which a file stands, as the scene writes it. A scene that was read has each extension and host that its
--- files name.
+-- The name under which a file stands, as the scene writes it. A scene that was read has each extension and host that
+-- its files name.
 abbrev pub name_of : SceneValue → SceneFile → List ℕ
 name_of scene (Extension place) = extension_file (slice_get scene.extensions place)
 name_of scene (Host place) = text_or_empty (slice_get scene.hosts place)

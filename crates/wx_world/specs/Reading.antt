@@ -22,7 +22,8 @@ abbrev pub Stands : Option Files → SceneValue → FileContent → Type 0
 Stands told scene this = Tells told (name_of scene this.file) this.content
 
 -- The first so many files of the scene were read, one after another, and this comes of them, as far as the shelf tells.
-pub record ComesOf (told : Option Files) (scene : SceneValue) (count : ℕ) (result : Result WorldLists FileRefusal) : Type 0 where
+pub record ComesOf (told : Option Files) (scene : SceneValue) (count : ℕ) (result : Result WorldLists FileRefusal)
+    : Type 0 where
   pub contents : List FileContent
   pub in_order : map (λ (this : FileContent). this.file) contents ≡ take count scene.files
   pub stand : All (Stands told scene) contents
@@ -73,7 +74,8 @@ pub record IsAdded (told : Option Files) (scene : SceneValue) (file : SceneFile)
   pub added : file_added scene file content old ≡ Ok new
 
 -- The file that has this number is refused so, as far as the shelf tells.
-pub record IsRefused (told : Option Files) (scene : SceneValue) (n : ℕ) (file : SceneFile) (world : WorldLists) (refusal : FileRefusal) : Type 0 where
+pub record IsRefused (told : Option Files) (scene : SceneValue) (n : ℕ) (file : SceneFile) (world : WorldLists)
+    (refusal : FileRefusal) : Type 0 where
   pub content : Content
   pub stands : Tells told (name_of scene file) content
   pub refused : file_added scene file content world ≡ Err refusal.kind

@@ -45,7 +45,8 @@ fn read_extension(alloc: Global, bytes: &[u8]) -> Result<Extension, FileFault>
 /// The manifest of a host that these bytes hold, which stand under this name.
 fn read_host(alloc: Global, name: &str, bytes: &[u8]) -> Result<HostManifest, FileFault>
     ensures ok { IfOk result (λ host. told_as kind.Host (host_of (words.file_name name.now) bytes.now) ≡ Ok host) }
-    ensures err { IfErr result (λ fault. Refuses (told_as kind.Host (host_of (words.file_name name.now) bytes.now)) fault) }
+    ensures err { IfErr result (λ fault.
+        Refuses (told_as kind.Host (host_of (words.file_name name.now) bytes.now)) fault) }
 {
     match HostManifest::read(alloc, file_name(name), bytes) {
         Ok(host) => Ok(host),

@@ -17,7 +17,8 @@ fn refused(file: u64, kind: FileKind) -> WorldFault
     WorldFault::Refused(FileRefusal { file, kind })
 }
 
-/// Reads the file that has this number among those that the scene names, judges it, and adds what it holds to the world.
+/// Reads the file that has this number among those that the scene names, judges it, and adds what it holds to the
+/// world.
 fn add_file<F: Shelf>(
     alloc: Global,
     scene: &Scene,
@@ -28,7 +29,8 @@ fn add_file<F: Shelf>(
 ) -> Result<(), WorldFault>
     ensures ok { OnOk result (IsAdded (F.state shelf.old).files scene.now file world.old world.new) }
     ensures err { IfErr result (λ why.
-        AddsNothing (F.state shelf.old).files scene.now number file world.old (F.state shelf.old).faults (F.state shelf.new).faults why) }
+        AddsNothing (F.state shelf.old).files scene.now number file world.old (F.state shelf.old).faults
+        (F.state shelf.new).faults why) }
     ensures later { (F.state shelf.old).faults ≤ (F.state shelf.new).faults }
     ensures unchanged { (F.state shelf.new).files ≡ (F.state shelf.old).files }
 {
@@ -44,8 +46,8 @@ fn add_file<F: Shelf>(
 }
 
 /// The world of a scene: each extension with a file by its id, and each host, in scene order. The files are read from
-/// the shelf under the names that the scene writes; each is judged before the next is read, and the first that is refused
-/// or can't be read ends it. Only want of memory is answered without its cause.
+/// the shelf under the names that the scene writes; each is judged before the next is read, and the first that is
+/// refused or can't be read ends it. Only want of memory is answered without its cause.
 pub fn read_world<F: Shelf>(
     alloc: Global,
     scene: &Scene,
