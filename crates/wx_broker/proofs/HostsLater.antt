@@ -4,16 +4,8 @@ use Rattle.std.specs.Prelude.{Option, Some, None, slice_get}
 use Rattle.std.specs.Option.{option_map}
 use Rattle.wx_id.specs.declared.numbers.HostNo.{HostNo}
 use Rattle.wx_id.specs.declared.numbers.EntryNo.{EntryNo}
-use Rattle.wx_machine.specs.declared.work.Work.{Work}
+use Rattle.wx_machine.specs.Words.{Work, Entry, Ends, channels, channel, Parties, requests, request, is_closed, is_settled, work_of, is_over, said_for, text_or_end}
 use Rattle.wx_machine.specs.declared.work.Work.TheVariants.{Channel as ForChannel, Request as ForRequest}
-use Rattle.wx_machine.specs.declared.entries.Entry.{Entry}
-use Rattle.wx_machine.specs.Channels.{Ends, channels, channel}
-use Rattle.wx_machine.specs.Requests.{Parties, requests, request}
-use Rattle.wx_machine.specs.Closing.{is_closed}
-use Rattle.wx_machine.specs.Settling.{is_settled}
-use Rattle.wx_machine.specs.Hosts.{work_of}
-use Rattle.wx_machine.specs.Texts.{is_over}
-use Rattle.wx_machine.specs.Answers.{said_for, text_or_end}
 use Rattle.wx_port.specs.Port.{Port, is_open_port}
 use Rattle.wx_one_shot.specs.Requests.{Request, is_settled_at}
 use Rattle.wx_broker.specs.Tables.{port_said, request_said, HasChannels, HasRequests, IfRequest, IsWithin, is_over_at, said_at, text_told}

@@ -12,23 +12,12 @@ use Rattle.wx_id.specs.declared.numbers.RequestNo.{RequestNo}
 use Rattle.wx_context.specs.declared.contexts.Target.{Target}
 use Rattle.wx_external.specs.World.{WorldLists}
 use Rattle.wx_machine.specs.declared.sorts.Sort.TheVariants.{Connection, Message}
-use Rattle.wx_machine.specs.declared.entries.Who.{Who}
+use Rattle.wx_machine.specs.Words.{Who, Call, Answer, Entry, Reason, hosts, is_for_channel, is_for_request, work_of, EachAfter, contexts, is_leave, receivers_of}
+use Rattle.wx_machine.specs.Words.{opens, opened_by, ends_channel, asks, asked_by, is_decline, ends_request, FollowsMachine, may_make}
 use Rattle.wx_machine.specs.declared.entries.Who.TheVariants.{Context as ByContext, Host as ByHost}
-use Rattle.wx_machine.specs.declared.entries.Call.{Call}
 use Rattle.wx_machine.specs.declared.entries.Call.TheVariants.{Leave, Connect, ConnectNative, Disconnect, Send, SendNative, Reply, Decline, HostTake, HostSaid, HostEnded}
-use Rattle.wx_machine.specs.declared.entries.Answer.{Answer}
 use Rattle.wx_machine.specs.declared.entries.Answer.TheVariants.{Channel as OnChannel, Request as OnRequest}
-use Rattle.wx_machine.specs.declared.entries.Entry.{Entry}
-use Rattle.wx_machine.specs.declared.entries.Reason.{Reason}
 use Rattle.wx_machine.specs.declared.entries.TheConstants.{LONGEST_SAID}
-use Rattle.wx_machine.specs.Hosts.{hosts, is_for_channel, is_for_request, work_of}
-use Rattle.wx_machine.specs.Each.{EachAfter}
-use Rattle.wx_machine.specs.Contexts.{contexts, is_leave, receivers_of}
-use Rattle.wx_machine.specs.Channels.{opens, opened_by}
-use Rattle.wx_machine.specs.Closing.{ends_channel}
-use Rattle.wx_machine.specs.Requests.{asks, asked_by}
-use Rattle.wx_machine.specs.Settling.{is_decline, ends_request}
-use Rattle.wx_machine.specs.Answers.{FollowsMachine, may_make}
 use Rattle.wx_port.specs.Port.{Port, opened, closed, left_by as port_left}
 use Rattle.wx_one_shot.specs.Requests.{Request, asked, settled, without, left_by as request_left}
 use Rattle.wx_walks.proofs.Past.{reverse-push}

@@ -14,19 +14,11 @@ use Rattle.wx_id.specs.declared.events.End.{End}
 use Rattle.wx_id.specs.declared.events.End.TheVariants.{Opener, Receiver, Neither}
 use Rattle.wx_context.specs.declared.contexts.Target.{Target}
 use Rattle.wx_machine.specs.declared.sorts.Sort.TheVariants.{Connection}
-use Rattle.wx_machine.specs.declared.entries.Who.{Who}
+use Rattle.wx_machine.specs.Words.{Who, Call, Answer, Entry, Reason, is_live, is_leave, receivers_of, Ends, opens, opened_by, channels, channel}
+use Rattle.wx_machine.specs.Words.{end_in, is_for_channel, work_of, is_one, leaving, ends_by, ends_channel, closed_at, is_closed, at_end}
 use Rattle.wx_machine.specs.declared.entries.Who.TheVariants.{Context as ByContext, Host as ByHost}
-use Rattle.wx_machine.specs.declared.entries.Call.{Call}
 use Rattle.wx_machine.specs.declared.entries.Call.TheVariants.{Connect, ConnectNative, Disconnect, HostEnded, Leave}
-use Rattle.wx_machine.specs.declared.entries.Answer.{Answer}
 use Rattle.wx_machine.specs.declared.entries.Answer.TheVariants.{Channel as OnChannel, NoEffect, Done, Gone}
-use Rattle.wx_machine.specs.declared.entries.Entry.{Entry}
-use Rattle.wx_machine.specs.declared.entries.Reason.{Reason}
-use Rattle.wx_machine.specs.Contexts.{is_live, is_leave, receivers_of}
-use Rattle.wx_machine.specs.Channels.{Ends, opens, opened_by, channels, channel, end_in}
-use Rattle.wx_machine.specs.Hosts.{is_for_channel, work_of}
-use Rattle.wx_machine.specs.Closing.{is_one, leaving, ends_by, ends_channel, closed_at, is_closed}
-use Rattle.wx_machine.specs.Answers.{at_end}
 use Rattle.wx_port.specs.Port.{Port, end_of, is_open_port, closed, with_live, opened, left_by}
 use Rattle.wx_walks.proofs.EndsLater.{channels_more, channel_more}
 use Rattle.wx_broker.specs.Tables.{port_said, HasChannels, is_done}

@@ -10,17 +10,11 @@ use Rattle.wx_external.specs.World.{WorldLists}
 use Rattle.wx_external.specs.Gate.{native_gate_of}
 use Rattle.wx_external.specs.declared.native.NativeVerdict.{NativeVerdict}
 use Rattle.wx_external.specs.declared.native.NativeVerdict.TheVariants as native
-use Rattle.wx_machine.specs.declared.entries.Who.{Who}
+use Rattle.wx_machine.specs.Words.{Who, Call, Answer, Entry, EachAfter, context_of, enters, extension_of, if_numbered, is_live, Start}
+use Rattle.wx_machine.specs.Words.{started_by, starts, hosts, FollowsMachine, answer_after, native_gate_for, where_native}
 use Rattle.wx_machine.specs.declared.entries.Who.TheVariants.{Context as ByContext}
-use Rattle.wx_machine.specs.declared.entries.Call.{Call}
 use Rattle.wx_machine.specs.declared.entries.Call.TheVariants.{ConnectNative, SendNative}
-use Rattle.wx_machine.specs.declared.entries.Answer.{Answer}
 use Rattle.wx_machine.specs.declared.entries.Answer.TheVariants.{Channel as OnChannel, Request as OnRequest, Gone}
-use Rattle.wx_machine.specs.declared.entries.Entry.{Entry}
-use Rattle.wx_machine.specs.Each.{EachAfter}
-use Rattle.wx_machine.specs.Contexts.{context_of, enters, extension_of, if_numbered, is_live}
-use Rattle.wx_machine.specs.Hosts.{Start, started_by, starts, hosts}
-use Rattle.wx_machine.specs.Answers.{FollowsMachine, answer_after, native_gate_for, where_native}
 use Rattle.wx_walks.proofs.EndsLater.{place_more}
 use Rattle.wx_broker.proofs.TestsLater.{outside}
 use Rattle.wx_broker.specs.Views.{view_at, view_for, view_of, host_view}

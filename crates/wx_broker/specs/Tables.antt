@@ -3,19 +3,10 @@ use Rattle.std.specs.Prelude.{◌≡◌, ◌<◌, ℕ, length, List, [], Bool, t
 use Rattle.std.specs.Option.{option_map}
 use Rattle.wx_id.specs.declared.numbers.EntryNo.{EntryNo}
 use Rattle.wx_external.specs.World.{WorldLists}
-use Rattle.wx_machine.specs.declared.entries.Call.{Call}
+use Rattle.wx_machine.specs.Words.{Call, Answer, Entry, Work, is_live, Ends, channel, is_closed, Parties, request, is_settled, is_open_to, IsLegal}
 use Rattle.wx_machine.specs.declared.entries.Call.TheVariants.{Enter, Listen, Connect, Post, Send, Take, ConnectNative, SendNative, HostTake}
-use Rattle.wx_machine.specs.declared.entries.Answer.{Answer}
 use Rattle.wx_machine.specs.declared.entries.Answer.TheVariants.{Channel as OnChannel, Request as OnRequest, Event as Told, Text as HasText, Done, Gone, First, Late as TooLate, NotYours, PortClosed, Passed, Ignored}
-use Rattle.wx_machine.specs.declared.entries.Entry.{Entry}
-use Rattle.wx_machine.specs.declared.work.Work.{Work}
 use Rattle.wx_machine.specs.declared.work.Work.TheVariants.{Channel as ForChannel, Request as ForRequest}
-use Rattle.wx_machine.specs.Contexts.{is_live}
-use Rattle.wx_machine.specs.Channels.{Ends, channel}
-use Rattle.wx_machine.specs.Closing.{is_closed}
-use Rattle.wx_machine.specs.Requests.{Parties, request}
-use Rattle.wx_machine.specs.Settling.{is_settled, is_open_to}
-use Rattle.wx_machine.specs.Answers.{IsLegal}
 use Rattle.wx_port.specs.Port.{Port, is_open_port}
 use Rattle.wx_one_shot.specs.declared.requests.Standing.{Standing}
 use Rattle.wx_one_shot.specs.declared.requests.Standing.TheVariants.{Open, Late, Stranger}

@@ -8,16 +8,8 @@ use Rattle.wx_id.specs.declared.numbers.ContextNo.{ContextNo}
 use Rattle.wx_id.specs.declared.numbers.EntryNo.{EntryNo}
 use Rattle.wx_id.specs.declared.numbers.HostNo.{HostNo}
 use Rattle.wx_external.specs.World.{WorldLists}
-use Rattle.wx_machine.specs.declared.entries.Who.{Who}
+use Rattle.wx_machine.specs.Words.{Who, Call, Answer, Entry, FollowsMachine, may_make, text_in, text_carried, text_of, contexts, is_enter, EachAfter, hosts, starts}
 use Rattle.wx_machine.specs.declared.entries.Who.TheVariants.{Context, Host}
-use Rattle.wx_machine.specs.declared.entries.Call.{Call}
-use Rattle.wx_machine.specs.declared.entries.Answer.{Answer}
-use Rattle.wx_machine.specs.declared.entries.Entry.{Entry}
-use Rattle.wx_machine.specs.Answers.{FollowsMachine, may_make}
-use Rattle.wx_machine.specs.Carried.{text_in, text_carried, text_of}
-use Rattle.wx_machine.specs.Contexts.{contexts, is_enter}
-use Rattle.wx_machine.specs.Each.{EachAfter}
-use Rattle.wx_machine.specs.Hosts.{hosts, starts}
 use Rattle.wx_broker.specs.State.{BrokerState}
 use Rattle.wx_broker.specs.Steps.{Appends, Stays}
 use Rattle.wx_desk.specs.History.{Seen, entries_in, same_who, seen_by}

@@ -3,15 +3,8 @@ use Rattle.std.specs.Prelude.{◌≡◌, ◌<◌, Bool, true, List, [], ◌∷�
 use Rattle.wx_id.specs.declared.numbers.ContextNo.{ContextNo}
 use Rattle.wx_id.specs.declared.numbers.HostNo.{HostNo}
 use Rattle.wx_external.specs.World.{WorldLists}
-use Rattle.wx_machine.specs.declared.entries.Who.{Who}
+use Rattle.wx_machine.specs.Words.{Who, Call, Answer, Entry, FollowsMachine, contexts, EachAfter, hosts}
 use Rattle.wx_machine.specs.declared.entries.Who.TheVariants.{Context, Host}
-use Rattle.wx_machine.specs.declared.entries.Call.{Call}
-use Rattle.wx_machine.specs.declared.entries.Answer.{Answer}
-use Rattle.wx_machine.specs.declared.entries.Entry.{Entry}
-use Rattle.wx_machine.specs.Answers.{FollowsMachine}
-use Rattle.wx_machine.specs.Contexts.{contexts}
-use Rattle.wx_machine.specs.Each.{EachAfter}
-use Rattle.wx_machine.specs.Hosts.{hosts}
 use Rattle.wx_desk.specs.History.{Seen, entries_in, AreOthers}
 
 -- what a desk tells: whose calls it makes, the world, what it has seen, and whether nobody else makes entries there

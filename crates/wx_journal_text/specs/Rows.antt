@@ -1,7 +1,7 @@
 -- Worked examples of a journal's text.
 use Rattle.std.specs.Prelude.{◌≡◌, ◌++◌, [], reverse, codes}
 use Rattle.wx_external.specs.World.{WorldLists, empty_world}
-use Rattle.wx_machine.specs.Answers.{made_of}
+use Rattle.wx_machine.specs.Words.{made_of}
 use Rattle.wx_machine.specs.Rows.{one_connection_calls, first_reply_calls, tabs_and_frames_calls, from_outside_calls, host_replies_calls, host_ends_calls, with_hosts}
 use Rattle.wx_journal_text.specs.Text.{journal_text}
 

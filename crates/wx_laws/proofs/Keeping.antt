@@ -9,12 +9,7 @@ use Rattle.wx_id.specs.declared.numbers.ContextNo.{ContextNo}
 use Rattle.wx_id.specs.declared.numbers.HostNo.{HostNo}
 use Rattle.wx_id.specs.declared.events.EventKind.TheVariants.{Disconnected}
 use Rattle.wx_external.specs.World.{WorldLists}
-use Rattle.wx_machine.specs.Contexts.{is_live}
-use Rattle.wx_machine.specs.Channels.{channel, end_in}
-use Rattle.wx_machine.specs.Closing.{ends_channel, closed_at, is_closed, closes}
-use Rattle.wx_machine.specs.Events.{on, side_of}
-use Rattle.wx_machine.specs.Answers.{IsLegal}
-use Rattle.wx_machine.specs.declared.entries.Entry.{Entry}
+use Rattle.wx_machine.specs.Words.{is_live, channel, end_in, ends_channel, closed_at, is_closed, closes, on, side_of, IsLegal, Entry}
 use Rattle.wx_laws.specs.Legal.{IsLegalPast}
 use Rattle.wx_laws.specs.ClosingLaw.{are_across, is_disconnected}
 use Rattle.wx_laws.specs.Keeping.{before, IsEntry, told, is_at, KeepsChannel, KeepsRequest, KeepsHost, KeepsRefusals, LegalKeepsLaws}

@@ -6,7 +6,7 @@ use Rattle.std.proofs.lemmas.Bool.{eqb-true, eqb-false}
 use Rattle.std.proofs.lemmas.Bool.Decides.{nat_tests}
 use Rattle.std.proofs.lemmas.List.Elements.{filter-append}
 use Rattle.wx_id.specs.declared.events.EventKind.{EventKind}
-use Rattle.wx_machine.specs.Events.{on}
+use Rattle.wx_machine.specs.Words.{on}
 
 pub eqb_refl : (n : ℕ) → (n == n) ≡ true
 eqb_refl n = grind (arith, nat_tests)

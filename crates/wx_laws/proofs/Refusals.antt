@@ -5,9 +5,7 @@ use Rattle.wx_id.specs.declared.numbers.ContextNo.{ContextNo}
 use Rattle.wx_id.specs.declared.numbers.ChannelNo.{ChannelNo}
 use Rattle.wx_external.specs.declared.gates.Verdict.{Verdict}
 use Rattle.wx_external.specs.declared.native.NativeVerdict.{NativeVerdict}
-use Rattle.wx_machine.specs.Contexts.{context_of, receivers_of}
-use Rattle.wx_machine.specs.Channels.{channels}
-use Rattle.wx_machine.specs.Answers.{gate_for, where_open, native_gate_for, where_native, where_heard}
+use Rattle.wx_machine.specs.Words.{context_of, receivers_of, channels, gate_for, where_open, native_gate_for, where_native, where_heard}
 use Rattle.wx_machine.specs.declared.entries.Answer.TheVariants.{Channel as OnChannel}
 use Rattle.wx_machine.specs.declared.sorts.Sort.TheVariants.{Connection}
 use Rattle.wx_laws.specs.RefusalLaw.{is_refusal, is_bad_or_forbidden, is_nobody, RefusesConnects, is_open, RefusesNativeConnects}

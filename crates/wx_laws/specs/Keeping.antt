@@ -6,17 +6,8 @@ use Rattle.wx_id.specs.declared.events.EventKind.{EventKind}
 use Rattle.wx_id.specs.declared.events.EventKind.TheVariants.{Disconnected, Replied, Closed}
 use Rattle.wx_context.specs.declared.contexts.Target.{Target}
 use Rattle.wx_external.specs.World.{WorldLists}
-use Rattle.wx_machine.specs.Contexts.{context_of, is_by, is_live, receivers_of}
-use Rattle.wx_machine.specs.Channels.{channel, end_in}
-use Rattle.wx_machine.specs.Requests.{request, is_asker}
-use Rattle.wx_machine.specs.Hosts.{work_of}
-use Rattle.wx_machine.specs.Texts.{texts_taken}
-use Rattle.wx_machine.specs.Closing.{closed_at}
-use Rattle.wx_machine.specs.Settling.{settled_at}
-use Rattle.wx_machine.specs.Events.{on, side_of, tells, event_in, taken, is_of, pending}
-use Rattle.wx_machine.specs.Answers.{IsLegal, gate_for, native_gate_for}
-use Rattle.wx_machine.specs.declared.entries.Answer.{Answer}
-use Rattle.wx_machine.specs.declared.entries.Entry.{Entry}
+use Rattle.wx_machine.specs.Words.{context_of, is_by, is_live, receivers_of, channel, end_in, request, is_asker, work_of, texts_taken, closed_at, settled_at}
+use Rattle.wx_machine.specs.Words.{on, side_of, tells, event_in, taken, is_of, pending, IsLegal, gate_for, native_gate_for, Answer, Entry}
 use Rattle.wx_machine.specs.declared.entries.Who.TheVariants.{Context as ByContext}
 use Rattle.wx_machine.specs.declared.entries.Call.TheVariants.{Connect, ConnectNative}
 use Rattle.wx_machine.specs.declared.sorts.Sort.TheVariants.{Connection}

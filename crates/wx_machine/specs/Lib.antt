@@ -10,3 +10,4 @@ pub mod Texts
 pub mod Events
 pub mod Answers
 pub mod Rows
+pub mod Words

@@ -3,18 +3,11 @@ use Rattle.std.specs.Prelude.{ℕ, ◌+◌, length, List, [], ◌∷◌, Bool, t
 use Rattle.std.specs.Option.{option_or, option_map}
 use Rattle.wx_id.specs.Numbers.{entry_no}
 use Rattle.wx_id.specs.declared.numbers.EntryNo.{EntryNo}
-use Rattle.wx_machine.specs.declared.entries.Who.{Who}
+use Rattle.wx_machine.specs.Words.{Who, Call, Answer, Entry, opens, channels, Parties, asks, requests, request}
+use Rattle.wx_machine.specs.Words.{is_asker, work_of, is_for_channel, closed_at, ends_request}
 use Rattle.wx_machine.specs.declared.entries.Who.TheVariants.{Context as ByContext, Host as ByHost}
-use Rattle.wx_machine.specs.declared.entries.Call.{Call}
 use Rattle.wx_machine.specs.declared.entries.Call.TheVariants.{Leave, Post, Reply, Take, HostTake, HostSaid}
-use Rattle.wx_machine.specs.declared.entries.Answer.{Answer}
 use Rattle.wx_machine.specs.declared.entries.Answer.TheVariants.{Event as Told, Posted, Text as HasText, Passed}
-use Rattle.wx_machine.specs.declared.entries.Entry.{Entry}
-use Rattle.wx_machine.specs.Channels.{opens, channels}
-use Rattle.wx_machine.specs.Requests.{Parties, asks, requests, request, is_asker}
-use Rattle.wx_machine.specs.Hosts.{work_of, is_for_channel}
-use Rattle.wx_machine.specs.Closing.{closed_at}
-use Rattle.wx_machine.specs.Settling.{ends_request}
 use Rattle.wx_laws.specs.PrefixLaw.{is_message}
 use Rattle.wx_reports.specs.declared.ports.PortReport.{PortReport}
 use Rattle.wx_reports.specs.declared.requests.RequestReport.{RequestReport}

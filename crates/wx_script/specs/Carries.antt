@@ -1,13 +1,9 @@
 -- How a journal carries out the scripts of its endpoints.
 use Rattle.std.specs.Prelude.{◌≡◌, List, slice_get, Some, IsTrue, reverse}
 use Rattle.wx_id.specs.declared.numbers.ContextNo.{ContextNo}
-use Rattle.wx_machine.specs.declared.entries.Who.{Who}
+use Rattle.wx_machine.specs.Words.{Who, Entry, is_enter, has_pending, EachAfter}
 use Rattle.wx_machine.specs.declared.entries.Who.TheVariants.{Context as ByContext, Host as ByHost}
 use Rattle.wx_machine.specs.declared.entries.Call.TheVariants.{Take}
-use Rattle.wx_machine.specs.declared.entries.Entry.{Entry}
-use Rattle.wx_machine.specs.Contexts.{is_enter}
-use Rattle.wx_machine.specs.Events.{has_pending}
-use Rattle.wx_machine.specs.Each.{EachAfter}
 use Rattle.wx_script.specs.declared.script.Command.{Command}
 use Rattle.wx_script.specs.Places.{Next, enters, asks, waits, ends, next_of}
 

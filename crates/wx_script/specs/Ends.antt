@@ -1,9 +1,7 @@
 -- How the scripts of a run end: done, stalled or spent. Every list of entries has the newest first.
 use Rattle.std.specs.Prelude.{◌≡◌, ℕ, ◌+◌, Bool, true, false, ◌&&◌, not, List, [], ◌∷◌, slice_get, Option, Some, None, nat_le, cond, if◌then◌else◌}
 use Rattle.wx_id.specs.declared.numbers.ContextNo.{ContextNo}
-use Rattle.wx_machine.specs.declared.entries.Entry.{Entry}
-use Rattle.wx_machine.specs.Contexts.{is_by}
-use Rattle.wx_machine.specs.Events.{has_pending}
+use Rattle.wx_machine.specs.Words.{Entry, is_by, has_pending}
 use Rattle.wx_script.specs.declared.script.Command.{Command}
 use Rattle.wx_script.specs.Places.{Next, enters, asks, waits, ends, next_of}
 

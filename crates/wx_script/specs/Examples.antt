@@ -4,7 +4,7 @@ use Rattle.wx_context.specs.declared.contexts.Context.TheVariants.{Page, Content
 use Rattle.wx_context.specs.WebUrls.{web_url_of}
 use Rattle.wx_context.specs.declared.contexts.Target.TheVariants.{Own, Other, Tab}
 use Rattle.wx_external.specs.Worked.{id_a}
-use Rattle.wx_machine.specs.Contexts.{deaf}
+use Rattle.wx_machine.specs.Words.{deaf}
 use Rattle.wx_script.specs.declared.script.Act.{Act}
 use Rattle.wx_script.specs.declared.script.Act.TheVariants as act
 use Rattle.wx_script.specs.declared.script.Command.{Command}

@@ -8,7 +8,7 @@ use Rattle.wx_id.specs.declared.numbers.TabId.{TabId}
 use Rattle.wx_id.specs.declared.numbers.FrameId.{FrameId}
 use Rattle.wx_context.specs.declared.contexts.Listens.{Listens}
 use Rattle.wx_context.specs.Paths.{is_page_path}
-use Rattle.wx_machine.specs.Contexts.{deaf}
+use Rattle.wx_machine.specs.Words.{deaf}
 use Rattle.wx_script.specs.declared.line.Awaited.{Awaited}
 use Rattle.wx_script.specs.declared.line.Awaited.TheVariants as event
 use Rattle.wx_script.specs.Words.{word, rest, is_name, is_word, is_number, is_small, is_count, is_given, is_comment}

@@ -1,7 +1,7 @@
 use Rattle.std.proofs.Common.{◌≡◌, true, cond, sym, ◌∙◌}
 use Rattle.std.specs.Prelude.{reverse, slice_get}
 use Rattle.wx_machine.specs.declared.entries.Answer.TheVariants.{Done, Gone}
-use Rattle.wx_machine.specs.Contexts.{is_live}
+use Rattle.wx_machine.specs.Words.{is_live}
 use Rattle.wx_one_shot.specs.Requests.{standing_at}
 use Rattle.wx_broker.specs.Tables.{on_standing}
 use Rattle.wx_broker.proofs.RequestsLater.{answered_on}

@@ -1,8 +1,7 @@
 use Rattle.std.proofs.Common.{◌≡◌, true, cond, ap, not, sym, ◌∙◌}
 use Rattle.std.specs.Prelude.{reverse, slice_get}
 use Rattle.wx_machine.specs.declared.entries.Answer.TheVariants.{Gone, PortClosed, Posted}
-use Rattle.wx_machine.specs.Contexts.{is_live}
-use Rattle.wx_machine.specs.Answers.{at_end, where_short}
+use Rattle.wx_machine.specs.Words.{is_live, at_end, where_short}
 use Rattle.wx_port.specs.Port.{end_of, is_open_port}
 use Rattle.wx_broker.proofs.PortsLater.{answered_at}
 use Rattle.wx_broker.proofs.answers.post.Goals as goal

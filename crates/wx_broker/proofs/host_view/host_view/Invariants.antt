@@ -1,6 +1,6 @@
 use Rattle.std.proofs.Common.{◌≡◌, ◌≤◌, take, length}
 use Rattle.std.specs.Prelude.{reverse}
-use Rattle.wx_machine.specs.Hosts.{hosts}
+use Rattle.wx_machine.specs.Words.{hosts}
 use Rattle.wx_broker.specs.Views.{view_of}
 use Rattle.std.specs.Prelude.{slice_get}
 use Rattle.wx_broker.proofs.host_view.host_view.Given as goal

@@ -1,6 +1,6 @@
 use Rattle.std.proofs.Common.{◌≡◌, take}
 use Rattle.std.specs.Prelude.{reverse, filter}
-use Rattle.wx_machine.specs.Contexts.{is_receiver, numbers}
+use Rattle.wx_machine.specs.Words.{is_receiver, numbers}
 use Rattle.wx_broker.proofs.tables.receivers.Given as goal
 
 abbrev pub invariant-loop-e : goal.invariant-loop-e

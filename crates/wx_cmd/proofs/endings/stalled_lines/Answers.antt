@@ -1,6 +1,6 @@
 use Rattle.std.proofs.Common.{◌++◌, ℕ, List, take, ap, sym, ◌∙◌, arith}
 use Rattle.std.specs.Prelude.{reverse}
-use Rattle.wx_machine.specs.Contexts.{has_left}
+use Rattle.wx_machine.specs.Words.{has_left}
 use Rattle.wx_script.specs.Ends.{numbered}
 use Rattle.wx_cmd.specs.Endings.{stalled_unless, stalled_from}
 use Rattle.wx_cmd.proofs.EndLemmas.{stalled_next}

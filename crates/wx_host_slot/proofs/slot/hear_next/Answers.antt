@@ -3,8 +3,7 @@ use Rattle.std.specs.Prelude.{reverse}
 use Rattle.wx_id.specs.declared.numbers.HostNo.{HostNo}
 use Rattle.wx_external.specs.World.{WorldLists}
 use Rattle.wx_machine.specs.declared.entries.Who.TheVariants.{Host}
-use Rattle.wx_machine.specs.Answers.{FollowsMachine}
-use Rattle.wx_machine.specs.Each.{EachAfter}
+use Rattle.wx_machine.specs.Words.{FollowsMachine, EachAfter}
 use Rattle.wx_desk.proofs.OverLemmas.{sound_over, legal_over}
 use Rattle.wx_host_launch.specs.Turns.{IsOutTurn}
 use Rattle.wx_host_launch.proofs.BrokerLemmas.{host_over}

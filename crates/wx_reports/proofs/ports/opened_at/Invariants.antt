@@ -1,6 +1,6 @@
 use Rattle.std.proofs.Common.{◌≡◌, ◌≤◌, take, length}
 use Rattle.std.specs.Prelude.{reverse}
-use Rattle.wx_machine.specs.Channels.{channels}
+use Rattle.wx_machine.specs.Words.{channels}
 use Rattle.wx_reports.specs.Reports.{opened_at}
 use Rattle.wx_reports.proofs.ports.opened_at.Given as goal
 

@@ -2,7 +2,7 @@ use Rattle.std.proofs.Common.{sym, subst, ◌∙◌}
 use Rattle.std.specs.Prelude.{Option, IfSome, reverse}
 use Rattle.wx_id.specs.declared.numbers.EntryNo.{EntryNo}
 use Rattle.wx_laws.proofs.Keeping.{keeps_channel}
-use Rattle.wx_machine.specs.Closing.{closed_at}
+use Rattle.wx_machine.specs.Words.{closed_at}
 use Rattle.wx_reports.specs.Places.{IsClosing}
 use Rattle.wx_reports.proofs.Counts.{posted_is, taken_is, number_back}
 use Rattle.wx_reports.proofs.Places.{opening_at, closing_at}

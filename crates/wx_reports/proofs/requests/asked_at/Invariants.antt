@@ -1,6 +1,6 @@
 use Rattle.std.proofs.Common.{◌≡◌, ◌≤◌, take, length}
 use Rattle.std.specs.Prelude.{reverse}
-use Rattle.wx_machine.specs.Requests.{requests}
+use Rattle.wx_machine.specs.Words.{requests}
 use Rattle.wx_reports.specs.Reports.{asked_at}
 use Rattle.wx_reports.proofs.requests.asked_at.Given as goal
 

@@ -1,6 +1,6 @@
 use Rattle.std.proofs.Common.{rules, ◌≡◌, ◌<◌, ◌∙◌, length, reverse, true, arith, ap}
 use Rattle.std.specs.Prelude.{is_ok}
-use Rattle.wx_machine.specs.Hosts.{hosts}
+use Rattle.wx_machine.specs.Words.{hosts}
 use Rattle.wx_host_slot.specs.Slots.{slot_of, slots_of}
 use Rattle.wx_run.specs.Slots.{keeping}
 use Rattle.wx_run.proofs.AddLemmas.{adding_begins, slot_pushed}

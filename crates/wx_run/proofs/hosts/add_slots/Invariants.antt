@@ -1,5 +1,5 @@
 use Rattle.std.proofs.Common.{◌-◌, length, reverse}
-use Rattle.wx_machine.specs.Hosts.{hosts}
+use Rattle.wx_machine.specs.Words.{hosts}
 use Rattle.wx_host_slot.specs.Slots.{slots_of}
 use Rattle.wx_run.proofs.AddLemmas.{AddedSoFar}
 use Rattle.wx_run.proofs.hosts.add_slots.Given as goal

@@ -1,8 +1,7 @@
 use Rattle.std.proofs.Common.{◌≡◌, ◌+◌, ◌<◌, ◌∙◌, Bool, length, reverse, arith, sym, subst, refl}
 use Rattle.std.specs.Prelude.{◌||◌}
 use Rattle.std.proofs.lemmas.List.{length-set}
-use Rattle.wx_machine.specs.Answers.{IsLegal}
-use Rattle.wx_machine.specs.Hosts.{hosts}
+use Rattle.wx_machine.specs.Words.{IsLegal, hosts}
 use Rattle.wx_script.specs.declared.scene.SpentWho.TheVariants.{Host}
 use Rattle.wx_host_slot.specs.Slots.{Stands, slot_of, slots_of}
 use Rattle.wx_run.specs.declared.rounds.Rounded.TheVariants.{Spent}

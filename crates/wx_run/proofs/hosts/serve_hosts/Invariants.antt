@@ -1,7 +1,7 @@
 use Rattle.std.proofs.Common.{◌≡◌, ℕ, Bool, List, length, vec_len}
 use Rattle.std.specs.Prelude.{reverse}
 use Rattle.wx_broker.specs.State.{BrokerState}
-use Rattle.wx_machine.specs.Answers.{IsLegal}
+use Rattle.wx_machine.specs.Words.{IsLegal}
 use Rattle.wx_host_launch.specs.Records.{StarterState}
 use Rattle.wx_host_slot.specs.Slots.{SlotView, slots_of}
 use Rattle.wx_run.proofs.ServeLemmas.{ServedSoFar}

@@ -1,7 +1,7 @@
 use Rattle.std.proofs.Common.{rules, ◌≡◌, ◌+◌, ◌∙◌, true, Some, ap, sym, subst, refl, arith, length}
 use Rattle.std.specs.Prelude.{is_ok, slice_get, reverse}
 use Rattle.std.proofs.lemmas.Option.{slice_get_read}
-use Rattle.wx_machine.specs.Answers.{IsLegal}
+use Rattle.wx_machine.specs.Words.{IsLegal}
 use Rattle.wx_run.specs.Opened.{OpenedSoFar, IsOpened, AreBelow}
 use Rattle.wx_run.proofs.OpeningLemmas.{opened_step, opened_push, opened_none}
 use Rattle.wx_run.proofs.opening.open.Goals as goal

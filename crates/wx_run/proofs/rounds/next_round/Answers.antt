@@ -1,7 +1,7 @@
 use Rattle.std.proofs.Common.{◌∙◌, subst, sym}
 use Rattle.std.proofs.lemmas.List.{length-map}
 use Rattle.std.specs.Prelude.{reverse, OnOk}
-use Rattle.wx_machine.specs.Answers.{IsLegal}
+use Rattle.wx_machine.specs.Words.{IsLegal}
 use Rattle.wx_host_slot.specs.Slots.{slot_of, slots_of}
 use Rattle.wx_run.specs.declared.rounds.Rounded.TheVariants.{Idle}
 use Rattle.wx_run.specs.Cursors.{scripts_in}

@@ -1,6 +1,6 @@
 use Rattle.std.proofs.Common.{◌∙◌, ℕ, sym, subst}
 use Rattle.std.specs.Prelude.{reverse}
-use Rattle.wx_machine.specs.Answers.{IsLegal}
+use Rattle.wx_machine.specs.Words.{IsLegal}
 use Rattle.wx_host_slot.specs.Slots.{slots_of}
 use Rattle.wx_run.specs.declared.rounds.Rounded.TheVariants.{Idle, Spent}
 use Rattle.wx_run.specs.Cursors.{scripts_in}

@@ -1,7 +1,7 @@
 use Rattle.std.proofs.Common.{◌≡◌, ◌∙◌, [], ap, sym, subst, length}
 use Rattle.std.specs.Prelude.{reverse}
 use Rattle.std.proofs.lemmas.List.{length-map}
-use Rattle.wx_machine.specs.Answers.{IsLegal}
+use Rattle.wx_machine.specs.Words.{IsLegal}
 use Rattle.wx_broker.specs.State.{BrokerState}
 use Rattle.wx_script.specs.SceneValue.{scripts_of}
 use Rattle.wx_host_slot.specs.Slots.{slot_of, slots_of}

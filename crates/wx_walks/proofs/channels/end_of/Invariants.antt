@@ -1,6 +1,6 @@
 use Rattle.std.proofs.Common.{◌≡◌, ◌≤◌, take, length}
 use Rattle.std.specs.Prelude.{reverse}
-use Rattle.wx_machine.specs.Channels.{channels, channel, end_in}
+use Rattle.wx_machine.specs.Words.{channels, channel, end_in}
 use Rattle.wx_walks.proofs.channels.end_of.Given as goal
 
 abbrev pub invariant-loop-i : goal.invariant-loop-i

@@ -1,7 +1,6 @@
 use Rattle.std.proofs.Common.{◌≡◌, ◌≤◌, ◌∷◌, take, length}
 use Rattle.std.specs.Prelude.{reverse}
-use Rattle.wx_machine.specs.Channels.{channels, channel}
-use Rattle.wx_machine.specs.Closing.{has_live}
+use Rattle.wx_machine.specs.Words.{channels, channel, has_live}
 use Rattle.wx_walks.proofs.closing.has_live_receiver.Given as goal
 
 abbrev pub invariant-loop-i : goal.invariant-loop-i

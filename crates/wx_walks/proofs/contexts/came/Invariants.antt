@@ -1,6 +1,6 @@
 use Rattle.std.proofs.Common.{◌≡◌, take}
 use Rattle.std.specs.Prelude.{reverse}
-use Rattle.wx_machine.specs.Contexts.{is_there, context_of}
+use Rattle.wx_machine.specs.Words.{is_there, context_of}
 use Rattle.wx_walks.proofs.contexts.came.Given as goal
 
 abbrev pub invariant-loop-e : goal.invariant-loop-e

@@ -1,6 +1,6 @@
 use Rattle.std.proofs.Common.{◌≡◌, take}
 use Rattle.std.specs.Prelude.{reverse, option_copied}
-use Rattle.wx_machine.specs.Contexts.{context_of}
+use Rattle.wx_machine.specs.Words.{context_of}
 use Rattle.wx_walks.proofs.contexts.context_of.Given as goal
 
 abbrev pub invariant-loop-e : goal.invariant-loop-e

@@ -1,6 +1,6 @@
 use Rattle.std.proofs.Common.{◌≡◌, take, ◌≤◌}
 use Rattle.std.specs.Prelude.{reverse}
-use Rattle.wx_machine.specs.Contexts.{contexts}
+use Rattle.wx_machine.specs.Words.{contexts}
 use Rattle.wx_walks.proofs.contexts.count.Given as goal
 
 abbrev pub invariant-loop-e : goal.invariant-loop-e

@@ -1,7 +1,7 @@
 use Rattle.std.proofs.Common.{◌≡◌, take}
 use Rattle.std.specs.Prelude.{reverse, filter, true}
 use Rattle.std.specs.List.{list_any}
-use Rattle.wx_machine.specs.Contexts.{is_receiver, numbers}
+use Rattle.wx_machine.specs.Words.{is_receiver, numbers}
 use Rattle.wx_walks.proofs.contexts.has_receiver.Given as goal
 
 abbrev pub invariant-loop-f : goal.invariant-loop-f

@@ -1,7 +1,6 @@
 use Rattle.std.proofs.Common.{◌≡◌, take}
 use Rattle.std.specs.Prelude.{reverse, filter}
-use Rattle.wx_machine.specs.Events.{queued, is_waiting}
-use Rattle.wx_machine.specs.Each.{first}
+use Rattle.wx_machine.specs.Words.{queued, is_waiting, first}
 use Rattle.wx_walks.proofs.events.first_pending.Given as goal
 
 abbrev pub invariant-loop-i : goal.invariant-loop-i

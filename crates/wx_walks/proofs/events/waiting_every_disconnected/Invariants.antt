@@ -1,8 +1,7 @@
 use Rattle.std.proofs.Common.{◌≡◌, map}
 use Rattle.std.specs.Prelude.{reverse, filter, flat_map}
 use Rattle.std.specs.List.{range_with_len}
-use Rattle.wx_machine.specs.Events.{disconnected_on, is_waiting, marked}
-use Rattle.wx_machine.specs.Each.{first}
+use Rattle.wx_machine.specs.Words.{disconnected_on, is_waiting, marked, first}
 use Rattle.wx_walks.proofs.events.waiting_every_disconnected.Given as goal
 
 abbrev pub invariant-loop-k : goal.invariant-loop-k

@@ -1,8 +1,7 @@
 use Rattle.std.proofs.Common.{◌≡◌, map}
 use Rattle.std.specs.Prelude.{reverse, filter, flat_map}
 use Rattle.std.specs.List.{range_with_len}
-use Rattle.wx_machine.specs.Events.{unanswered_on, is_waiting, marked}
-use Rattle.wx_machine.specs.Each.{first}
+use Rattle.wx_machine.specs.Words.{unanswered_on, is_waiting, marked, first}
 use Rattle.wx_walks.proofs.events.waiting_every_unanswered.Given as goal
 
 abbrev pub invariant-loop-r : goal.invariant-loop-r

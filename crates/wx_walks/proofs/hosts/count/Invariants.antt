@@ -1,6 +1,6 @@
 use Rattle.std.proofs.Common.{◌≡◌, ◌≤◌, take, length}
 use Rattle.std.specs.Prelude.{reverse}
-use Rattle.wx_machine.specs.Hosts.{hosts}
+use Rattle.wx_machine.specs.Words.{hosts}
 use Rattle.wx_walks.proofs.hosts.count.Given as goal
 
 abbrev pub invariant-loop-i : goal.invariant-loop-i

@@ -1,6 +1,6 @@
 use Rattle.std.proofs.Common.{◌≡◌, ◌≤◌, take, length}
 use Rattle.std.specs.Prelude.{reverse}
-use Rattle.wx_machine.specs.Hosts.{hosts, work_of}
+use Rattle.wx_machine.specs.Words.{hosts, work_of}
 use Rattle.wx_walks.proofs.hosts.work_of.Given as goal
 
 abbrev pub invariant-loop-i : goal.invariant-loop-i

@@ -1,6 +1,6 @@
 use Rattle.std.proofs.Common.{◌≡◌, take}
 use Rattle.std.specs.Prelude.{reverse}
-use Rattle.wx_machine.specs.Settling.{has_declined}
+use Rattle.wx_machine.specs.Words.{has_declined}
 use Rattle.wx_walks.proofs.requests.has_declined.Given as goal
 
 abbrev pub invariant-loop-i : goal.invariant-loop-i

@@ -1,7 +1,6 @@
 use Rattle.std.proofs.Common.{◌≡◌, ◌≤◌, ◌∷◌, take, length}
 use Rattle.std.specs.Prelude.{reverse}
-use Rattle.wx_machine.specs.Requests.{requests, request}
-use Rattle.wx_machine.specs.Settling.{has_open}
+use Rattle.wx_machine.specs.Words.{requests, request, has_open}
 use Rattle.wx_walks.proofs.requests.has_open_receiver.Given as goal
 
 abbrev pub invariant-loop-i : goal.invariant-loop-i

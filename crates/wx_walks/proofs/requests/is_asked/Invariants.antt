@@ -1,6 +1,6 @@
 use Rattle.std.proofs.Common.{◌≡◌, ◌≤◌, take, length}
 use Rattle.std.specs.Prelude.{reverse}
-use Rattle.wx_machine.specs.Requests.{requests, request, is_asked}
+use Rattle.wx_machine.specs.Words.{requests, request, is_asked}
 use Rattle.wx_walks.proofs.requests.is_asked.Given as goal
 
 abbrev pub invariant-loop-i : goal.invariant-loop-i

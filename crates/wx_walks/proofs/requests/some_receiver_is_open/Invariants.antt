@@ -2,8 +2,7 @@ use Rattle.std.proofs.Common.{◌≡◌, ◌∷◌, take}
 use Rattle.std.specs.Prelude.{reverse, filter}
 use Rattle.std.specs.List.{list_any}
 use Rattle.wx_machine.specs.declared.sorts.Sort.TheVariants.{Message}
-use Rattle.wx_machine.specs.Contexts.{is_receiver, numbers}
-use Rattle.wx_machine.specs.Settling.{is_open_to}
+use Rattle.wx_machine.specs.Words.{is_receiver, numbers, is_open_to}
 use Rattle.wx_walks.proofs.requests.some_receiver_is_open.Given as goal
 
 abbrev pub invariant-loop-f : goal.invariant-loop-f

@@ -1,7 +1,6 @@
 use Rattle.std.proofs.Common.{◌≡◌, take, not}
 use Rattle.std.specs.Prelude.{reverse, filter}
-use Rattle.wx_machine.specs.Each.{first}
-use Rattle.wx_machine.specs.Texts.{has_taken, texts_for}
+use Rattle.wx_machine.specs.Words.{first, has_taken, texts_for}
 use Rattle.wx_walks.proofs.texts.first_left.Given as goal
 
 abbrev pub invariant-loop-i : goal.invariant-loop-i

@@ -1,6 +1,6 @@
 use Rattle.std.proofs.Common.{◌≡◌, take}
 use Rattle.std.specs.Prelude.{reverse}
-use Rattle.wx_machine.specs.Texts.{said_closed}
+use Rattle.wx_machine.specs.Words.{said_closed}
 use Rattle.wx_walks.proofs.texts.said_closed.Given as goal
 
 abbrev pub invariant-loop-e : goal.invariant-loop-e

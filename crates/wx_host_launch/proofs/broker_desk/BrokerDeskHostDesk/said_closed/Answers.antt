@@ -1,6 +1,6 @@
 use Rattle.std.proofs.Common.{sym, ap, ◌∙◌}
 use Rattle.wx_machine.specs.declared.entries.Who.TheVariants.{Host}
-use Rattle.wx_machine.specs.Texts.{said_closed}
+use Rattle.wx_machine.specs.Words.{said_closed}
 use Rattle.wx_desk.proofs.OverLemmas.{past_over}
 use Rattle.wx_host_launch.proofs.broker_desk.BrokerDeskHostDesk.said_closed.Goals as goal
 

@@ -1,6 +1,6 @@
 use Rattle.std.proofs.Common.{sym, ap, ◌∙◌}
 use Rattle.wx_machine.specs.declared.entries.Who.TheVariants.{Host}
-use Rattle.wx_machine.specs.Carried.{text_of}
+use Rattle.wx_machine.specs.Words.{text_of}
 use Rattle.wx_desk.proofs.OverLemmas.{past_over, text_found}
 use Rattle.wx_host_launch.proofs.BrokerLemmas.{if_carried}
 use Rattle.wx_host_launch.proofs.broker_desk.BrokerDeskHostDesk.text_of.Goals as goal

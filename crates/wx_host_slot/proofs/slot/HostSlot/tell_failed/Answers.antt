@@ -5,8 +5,7 @@ use Rattle.wx_external.specs.World.{WorldLists}
 use Rattle.wx_machine.specs.declared.entries.Who.TheVariants.{Host}
 use Rattle.wx_machine.specs.declared.entries.Call.TheVariants.{HostEnded}
 use Rattle.wx_machine.specs.declared.entries.Reason.TheVariants.{StartFailed}
-use Rattle.wx_machine.specs.Answers.{FollowsMachine}
-use Rattle.wx_machine.specs.Each.{EachAfter}
+use Rattle.wx_machine.specs.Words.{FollowsMachine, EachAfter}
 use Rattle.wx_desk.specs.Desks.{MakesOne}
 use Rattle.wx_desk.proofs.OverLemmas.{sound_over, legal_over}
 use Rattle.wx_host_launch.proofs.BrokerLemmas.{host_over}
