@@ -1,3 +1,4 @@
+//! The command `frames`: a line for each native frame of a file, and how they end.
 ghost use Rattle.std.specs.Prelude.{◌≡◌, ◌++◌, ◌<◌, [], length, IfOk, OnOk, codes, decimal};
 ghost use Rattle.wx_native_frame.specs.Frames.{IsUnderWay};
 ghost use Rattle.wx_plain.specs.Answers.{FramesAnswers};

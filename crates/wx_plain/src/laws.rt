@@ -1,3 +1,4 @@
+//! Laws of what the commands that make no run answer.
 ghost use Rattle.std.specs.Prelude.{◌≡◌, Option, Result};
 ghost use Rattle.wx_outside.specs.Shelf.{Files};
 ghost use Rattle.wx_status.specs.declared.status.InputKind.{InputKind};

@@ -1,3 +1,4 @@
+//! The command `match`: whether a URL meets a pattern.
 ghost use Rattle.std.specs.Prelude.{◌≡◌, IfOk, IfErr};
 ghost use Rattle.wx_plain.specs.Matching as matching;
 ghost use Rattle.wx_plain.specs.View.{Gives, Says, output_view};

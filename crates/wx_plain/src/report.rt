@@ -1,3 +1,4 @@
+//! The command `report`: what a journal tells of its channels and requests.
 ghost use Rattle.std.specs.Prelude.{◌≡◌, ◌++◌, IfOk, OnOk, codes, decimal, length, reverse};
 ghost use Rattle.wx_machine.specs.Channels.{channels};
 ghost use Rattle.wx_machine.specs.Requests.{requests};

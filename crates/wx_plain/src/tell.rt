@@ -1,3 +1,4 @@
+//! How a verdict is told, and the status that it comes to.
 ghost use Rattle.std.specs.Prelude.{◌≡◌, ◌⊎◌};
 ghost use Rattle.wx_plain.specs.Output as outputs;
 ghost use Rattle.wx_plain.specs.Told.{Told};

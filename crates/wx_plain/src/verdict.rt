@@ -1,3 +1,4 @@
+//! What a command that makes no run comes to, before anything is written.
 use wx_status::InputKind;
 
 /// What a command prints, and whether that is yes.

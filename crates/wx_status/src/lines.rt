@@ -1,3 +1,4 @@
+//! The lines that say why an input is refused.
 ghost use Rattle.std.specs.Prelude.{◌≡◌, IfOk, string_bytes};
 ghost use Rattle.wx_status.specs.Lines as lines;
 ghost use Rattle.wx_status.specs.declared.status.InputKind.TheVariants as input;

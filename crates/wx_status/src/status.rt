@@ -1,3 +1,4 @@
+//! What the program answers, and the number with which it ends.
 ghost use Rattle.std.specs.Prelude.{◌≡◌};
 ghost use Rattle.wx_status.specs.Status.{status_number};
 
