@@ -1,8 +1,13 @@
-//! The tests of scenes and their scripts, by public calls.
+//! The tests of scenes, their scripts, and the endpoints that go through them, by public calls: tables of rows, each
+//! walked in one loop.
 #![tactic(auto)]
 
 #[cfg(test)]
+mod endpoints;
+#[cfg(test)]
 mod faults;
+#[cfg(test)]
+mod quiet_desk;
 #[cfg(test)]
 mod scenes;
 

@@ -1,6 +1,6 @@
 //! A desk of tests for a page that does nothing but take.
-use crate::desk::Desk;
 use wx_context::{Listens, Target};
+use wx_endpoint::Desk;
 use wx_id::{ChannelNo, EntryNo, NoMemory, RequestNo, Utf8Text};
 use wx_machine::{Answer, JsonText};
 
@@ -13,7 +13,7 @@ pub(crate) struct QuietDesk {
 
 impl Desk for QuietDesk {
     ghost use Rattle.std.specs.Prelude.{Some, false, []};
-    ghost use Rattle.wx_endpoint.specs.QuietDesks.{quiet_desk};
+    ghost use Rattle.wx_script_rows.specs.QuietDesks.{quiet_desk};
 
     ghost state = { λ desk. quiet_desk desk.takes };
 
