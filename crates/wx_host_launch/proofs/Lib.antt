@@ -4,7 +4,6 @@ pub mod HostLemmas
 pub mod ClosedLemmas
 pub mod StepLemmas
 pub mod TurnLemmas
-pub mod DeskLemmas
 pub mod BrokerLemmas
 pub mod KeepsLemmas
 pub mod KeptLemmas

@@ -5,4 +5,3 @@ pub mod Reading
 pub mod Halves
 pub mod Turns
 pub mod Memory
-pub mod TestDesks

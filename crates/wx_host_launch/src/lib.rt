@@ -11,9 +11,6 @@ mod reading;
 mod records;
 mod sending;
 mod starter;
-mod test_desk;
-#[cfg(test)]
-mod tests;
 mod turns;
 
 pub use children::{MemoryChild, MemoryIn, MemoryOut};
@@ -22,7 +19,6 @@ pub use memory::MemoryStarter;
 pub use pipes::{HostIn, HostOut};
 pub use records::{MemoryProgram, MemoryRecord};
 pub use starter::{StartFault, Starter};
-pub use test_desk::{Stage, TestDesk};
 pub use turns::{InTurn, OutTurn, in_turn, out_turn};
 pub use wx_host_manifest::Arguments;
 pub use wx_outside::Failed;

@@ -1,8 +1,8 @@
 //! A desk of tests, for one host and one text.
 ghost use Rattle.std.specs.Prelude.{◌≡◌, true};
-ghost use Rattle.wx_host_launch.specs.TestDesks.{one};
+ghost use Rattle.wx_host_rows.specs.TestDesks.{one};
 
-use crate::desk::HostDesk;
+use wx_host_launch::HostDesk;
 use wx_id::{EntryNo, NoMemory};
 use wx_machine::{Answer, JsonText, Reason};
 
@@ -47,7 +47,7 @@ pub struct TestDesk {
 impl HostDesk for TestDesk {
     ghost use Rattle.std.specs.Prelude.{[], false, is_some, ◌≡◌};
     ghost use Rattle.wx_machine.specs.Texts.{has_ended};
-    ghost use Rattle.wx_host_launch.specs.TestDesks.{desk_at, lent_at};
+    ghost use Rattle.wx_host_rows.specs.TestDesks.{desk_at, lent_at};
 
     ghost state = { λ desk. desk_at desk.stage desk.ended };
 
