@@ -4,7 +4,9 @@ use Rattle.std.specs.Prelude.{Option, Some, None, slice_get}
 use Rattle.std.specs.Option.{option_map}
 use Rattle.wx_id.specs.declared.numbers.HostNo.{HostNo}
 use Rattle.wx_id.specs.declared.numbers.EntryNo.{EntryNo}
-use Rattle.wx_machine.specs.Words.{Work, Entry, Ends, channels, channel, Parties, requests, request, is_closed, is_settled, work_of, is_over, said_for, text_or_end}
+use Rattle.wx_machine.specs.declared.work.Work.{Work}
+use Rattle.wx_machine.specs.declared.entries.Entry.{Entry}
+use Rattle.wx_machine.specs.Words.{Ends, channels, channel, Parties, requests, request, is_closed, is_settled, work_of, is_over, said_for, text_or_end}
 use Rattle.wx_machine.specs.declared.work.Work.TheVariants.{Channel as ForChannel, Request as ForRequest}
 use Rattle.wx_port.specs.Port.{Port, is_open_port}
 use Rattle.wx_one_shot.specs.Requests.{Request, is_settled_at}

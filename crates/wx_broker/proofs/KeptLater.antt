@@ -12,8 +12,13 @@ use Rattle.wx_id.specs.declared.numbers.RequestNo.{RequestNo}
 use Rattle.wx_context.specs.declared.contexts.Target.{Target}
 use Rattle.wx_external.specs.World.{WorldLists}
 use Rattle.wx_machine.specs.declared.sorts.Sort.TheVariants.{Connection, Message}
-use Rattle.wx_machine.specs.Words.{Who, Call, Answer, Entry, Reason, hosts, is_for_channel, is_for_request, work_of, EachAfter, contexts, is_leave, receivers_of}
-use Rattle.wx_machine.specs.Words.{opens, opened_by, ends_channel, asks, asked_by, is_decline, ends_request, FollowsMachine, may_make}
+use Rattle.wx_machine.specs.declared.entries.Who.{Who}
+use Rattle.wx_machine.specs.declared.entries.Call.{Call}
+use Rattle.wx_machine.specs.declared.entries.Answer.{Answer}
+use Rattle.wx_machine.specs.declared.entries.Entry.{Entry}
+use Rattle.wx_machine.specs.declared.entries.Reason.{Reason}
+use Rattle.wx_machine.specs.Words.{hosts, is_for_channel, is_for_request, work_of, EachAfter, contexts, is_leave, receivers_of, opens}
+use Rattle.wx_machine.specs.Words.{opened_by, ends_channel, asks, asked_by, is_decline, ends_request, FollowsMachine, may_make}
 use Rattle.wx_machine.specs.declared.entries.Who.TheVariants.{Context as ByContext, Host as ByHost}
 use Rattle.wx_machine.specs.declared.entries.Call.TheVariants.{Leave, Connect, ConnectNative, Disconnect, Send, SendNative, Reply, Decline, HostTake, HostSaid, HostEnded}
 use Rattle.wx_machine.specs.declared.entries.Answer.TheVariants.{Channel as OnChannel, Request as OnRequest}

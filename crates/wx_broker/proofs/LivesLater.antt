@@ -8,8 +8,10 @@ use Rattle.std.proofs.lemmas.Map.Views.{any-filter_same}
 use Rattle.wx_id.specs.Contexts.{is_among, is_other, same_context}
 use Rattle.wx_id.specs.declared.numbers.ContextNo.{ContextNo}
 use Rattle.wx_context.specs.declared.contexts.Target.{Target}
-use Rattle.wx_machine.specs.Words.{Sort, Answer, Entry, context_of, has_left, is_by, if_numbered, is_leave, is_live}
-use Rattle.wx_machine.specs.Words.{is_there, numbers, numbers_of, enters, is_receiver, receivers_of}
+use Rattle.wx_machine.specs.declared.sorts.Sort.{Sort}
+use Rattle.wx_machine.specs.declared.entries.Answer.{Answer}
+use Rattle.wx_machine.specs.declared.entries.Entry.{Entry}
+use Rattle.wx_machine.specs.Words.{context_of, has_left, is_by, if_numbered, is_leave, is_live, is_there, numbers, numbers_of, enters, is_receiver, receivers_of}
 use Rattle.wx_machine.specs.declared.entries.Who.TheVariants.{Context as ByContext}
 use Rattle.wx_machine.specs.declared.entries.Call.TheVariants.{Leave}
 use Rattle.wx_id.proofs.ContextLemmas.{same_context_is}

@@ -8,8 +8,13 @@ use Rattle.wx_id.specs.Contexts.{are_distinct, is_among, same_context}
 use Rattle.wx_id.specs.declared.numbers.ContextNo.{ContextNo}
 use Rattle.wx_context.specs.declared.contexts.Target.{Target}
 use Rattle.wx_external.specs.World.{WorldLists}
-use Rattle.wx_machine.specs.Words.{Sort, Who, Call, Answer, Entry, EachAfter, contexts, numbers, numbers_of, brought, is_enter, is_receiver, receivers_of}
-use Rattle.wx_machine.specs.Words.{is_live, reaches_from, context_of, listens_of, hosts, starts, FollowsMachine, answer_after, may_make}
+use Rattle.wx_machine.specs.declared.sorts.Sort.{Sort}
+use Rattle.wx_machine.specs.declared.entries.Who.{Who}
+use Rattle.wx_machine.specs.declared.entries.Call.{Call}
+use Rattle.wx_machine.specs.declared.entries.Answer.{Answer}
+use Rattle.wx_machine.specs.declared.entries.Entry.{Entry}
+use Rattle.wx_machine.specs.Words.{EachAfter, contexts, numbers, numbers_of, brought, is_enter, is_receiver, receivers_of, is_live}
+use Rattle.wx_machine.specs.Words.{reaches_from, context_of, listens_of, hosts, starts, FollowsMachine, answer_after, may_make}
 use Rattle.wx_machine.specs.declared.entries.Who.TheVariants.{Context as ByContext, Host as ByHost}
 use Rattle.wx_machine.specs.declared.entries.Call.TheVariants.{Enter}
 use Rattle.wx_walks.proofs.Past.{reverse-push}

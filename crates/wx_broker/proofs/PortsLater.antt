@@ -14,8 +14,13 @@ use Rattle.wx_id.specs.declared.events.End.{End}
 use Rattle.wx_id.specs.declared.events.End.TheVariants.{Opener, Receiver, Neither}
 use Rattle.wx_context.specs.declared.contexts.Target.{Target}
 use Rattle.wx_machine.specs.declared.sorts.Sort.TheVariants.{Connection}
-use Rattle.wx_machine.specs.Words.{Who, Call, Answer, Entry, Reason, is_live, is_leave, receivers_of, Ends, opens, opened_by, channels, channel}
-use Rattle.wx_machine.specs.Words.{end_in, is_for_channel, work_of, is_one, leaving, ends_by, ends_channel, closed_at, is_closed, at_end}
+use Rattle.wx_machine.specs.declared.entries.Who.{Who}
+use Rattle.wx_machine.specs.declared.entries.Call.{Call}
+use Rattle.wx_machine.specs.declared.entries.Answer.{Answer}
+use Rattle.wx_machine.specs.declared.entries.Entry.{Entry}
+use Rattle.wx_machine.specs.declared.entries.Reason.{Reason}
+use Rattle.wx_machine.specs.Words.{is_live, is_leave, receivers_of, Ends, opens, opened_by, channels, channel, end_in, is_for_channel}
+use Rattle.wx_machine.specs.Words.{work_of, is_one, leaving, ends_by, ends_channel, closed_at, is_closed, at_end}
 use Rattle.wx_machine.specs.declared.entries.Who.TheVariants.{Context as ByContext, Host as ByHost}
 use Rattle.wx_machine.specs.declared.entries.Call.TheVariants.{Connect, ConnectNative, Disconnect, HostEnded, Leave}
 use Rattle.wx_machine.specs.declared.entries.Answer.TheVariants.{Channel as OnChannel, NoEffect, Done, Gone}

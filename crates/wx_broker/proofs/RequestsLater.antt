@@ -13,8 +13,12 @@ use Rattle.wx_id.specs.declared.numbers.ContextNo.{ContextNo}
 use Rattle.wx_id.specs.declared.numbers.HostNo.{HostNo}
 use Rattle.wx_context.specs.declared.contexts.Target.{Target}
 use Rattle.wx_machine.specs.declared.sorts.Sort.TheVariants.{Message}
-use Rattle.wx_machine.specs.Words.{Who, Call, Answer, Entry, is_live, is_leave, receivers_of, Parties, asks, asked_by, requests, request, is_asked, is_for_request, work_of}
-use Rattle.wx_machine.specs.Words.{is_decline, has_declined, is_open_to, has_open, settles_by, ends_request, settled_at, is_settled, on_request, is_late, where_short}
+use Rattle.wx_machine.specs.declared.entries.Who.{Who}
+use Rattle.wx_machine.specs.declared.entries.Call.{Call}
+use Rattle.wx_machine.specs.declared.entries.Answer.{Answer}
+use Rattle.wx_machine.specs.declared.entries.Entry.{Entry}
+use Rattle.wx_machine.specs.Words.{is_live, is_leave, receivers_of, Parties, asks, asked_by, requests, request, is_asked, is_for_request, work_of, is_decline}
+use Rattle.wx_machine.specs.Words.{has_declined, is_open_to, has_open, settles_by, ends_request, settled_at, is_settled, on_request, is_late, where_short}
 use Rattle.wx_machine.specs.declared.entries.Who.TheVariants.{Context as ByContext, Host as ByHost}
 use Rattle.wx_machine.specs.declared.entries.Call.TheVariants.{Leave, Send, SendNative, Reply, Decline, HostSaid, HostEnded}
 use Rattle.wx_machine.specs.declared.entries.Answer.TheVariants.{Request as OnRequest, First, Done, Gone, TooLong}

@@ -10,8 +10,12 @@ use Rattle.wx_external.specs.World.{WorldLists}
 use Rattle.wx_external.specs.Gate.{native_gate_of}
 use Rattle.wx_external.specs.declared.native.NativeVerdict.{NativeVerdict}
 use Rattle.wx_external.specs.declared.native.NativeVerdict.TheVariants as native
-use Rattle.wx_machine.specs.Words.{Who, Call, Answer, Entry, EachAfter, context_of, enters, extension_of, if_numbered, is_live, Start}
-use Rattle.wx_machine.specs.Words.{started_by, starts, hosts, FollowsMachine, answer_after, native_gate_for, where_native}
+use Rattle.wx_machine.specs.declared.entries.Who.{Who}
+use Rattle.wx_machine.specs.declared.entries.Call.{Call}
+use Rattle.wx_machine.specs.declared.entries.Answer.{Answer}
+use Rattle.wx_machine.specs.declared.entries.Entry.{Entry}
+use Rattle.wx_machine.specs.Words.{EachAfter, context_of, enters, extension_of, if_numbered, is_live, Start, started_by}
+use Rattle.wx_machine.specs.Words.{starts, hosts, FollowsMachine, answer_after, native_gate_for, where_native}
 use Rattle.wx_machine.specs.declared.entries.Who.TheVariants.{Context as ByContext}
 use Rattle.wx_machine.specs.declared.entries.Call.TheVariants.{ConnectNative, SendNative}
 use Rattle.wx_machine.specs.declared.entries.Answer.TheVariants.{Channel as OnChannel, Request as OnRequest, Gone}

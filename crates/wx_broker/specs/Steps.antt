@@ -1,6 +1,10 @@
 -- What a call of the broker does to its journal.
 use Rattle.std.specs.Prelude.{◌≡◌, ◌≤◌, List, [], ◌∷◌, ◌++◌, length, reverse}
-use Rattle.wx_machine.specs.Words.{Who, Call, Answer, Entry, answer_of, contexts, hosts}
+use Rattle.wx_machine.specs.declared.entries.Who.{Who}
+use Rattle.wx_machine.specs.declared.entries.Call.{Call}
+use Rattle.wx_machine.specs.declared.entries.Answer.{Answer}
+use Rattle.wx_machine.specs.declared.entries.Entry.{Entry}
+use Rattle.wx_machine.specs.Words.{answer_of, contexts, hosts}
 use Rattle.wx_broker.specs.State.{BrokerState}
 
 -- one more entry: the call with the machine's answer, which the caller was told; the world stays

@@ -3,7 +3,11 @@ use Rattle.std.specs.Prelude.{◌≡◌, ◌<◌, ℕ, length, List, [], Bool, t
 use Rattle.std.specs.Option.{option_map}
 use Rattle.wx_id.specs.declared.numbers.EntryNo.{EntryNo}
 use Rattle.wx_external.specs.World.{WorldLists}
-use Rattle.wx_machine.specs.Words.{Call, Answer, Entry, Work, is_live, Ends, channel, is_closed, Parties, request, is_settled, is_open_to, IsLegal}
+use Rattle.wx_machine.specs.declared.entries.Call.{Call}
+use Rattle.wx_machine.specs.declared.entries.Answer.{Answer}
+use Rattle.wx_machine.specs.declared.entries.Entry.{Entry}
+use Rattle.wx_machine.specs.declared.work.Work.{Work}
+use Rattle.wx_machine.specs.Words.{is_live, Ends, channel, is_closed, Parties, request, is_settled, is_open_to, IsLegal}
 use Rattle.wx_machine.specs.declared.entries.Call.TheVariants.{Enter, Listen, Connect, Post, Send, Take, ConnectNative, SendNative, HostTake}
 use Rattle.wx_machine.specs.declared.entries.Answer.TheVariants.{Channel as OnChannel, Request as OnRequest, Event as Told, Text as HasText, Done, Gone, First, Late as TooLate, NotYours, PortClosed, Passed, Ignored}
 use Rattle.wx_machine.specs.declared.work.Work.TheVariants.{Channel as ForChannel, Request as ForRequest}

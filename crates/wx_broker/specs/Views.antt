@@ -5,7 +5,8 @@ use Rattle.wx_external.specs.World.{WorldLists}
 use Rattle.wx_external.specs.declared.native.NativeVerdict.{NativeVerdict}
 use Rattle.wx_external.specs.declared.native.NativeVerdict.TheVariants as native
 use Rattle.wx_external.specs.Gate.{native_gate_of}
-use Rattle.wx_machine.specs.Words.{Entry, context_of, extension_of, Start, hosts}
+use Rattle.wx_machine.specs.declared.entries.Entry.{Entry}
+use Rattle.wx_machine.specs.Words.{context_of, extension_of, Start, hosts}
 use Rattle.wx_broker.specs.declared.host_view.HostView.{HostView}
 
 -- where the gate is open, the host's place among the world's hosts, and the caller's extension

@@ -1,6 +1,7 @@
 -- The answer and the lines by which the end of a run is told.
 use Rattle.std.specs.Prelude.{ℕ, ◌+◌, Bool, List, [], ◌∷◌, ◌++◌, Option, Some, None, slice_get, codes, decimal, if◌then◌else◌}
-use Rattle.wx_machine.specs.Words.{Entry, has_left}
+use Rattle.wx_machine.specs.declared.entries.Entry.{Entry}
+use Rattle.wx_machine.specs.Words.{has_left}
 use Rattle.wx_script.specs.declared.scene.SceneEndpoint.{SceneEndpoint}
 use Rattle.wx_script.specs.SceneValue.{SceneValue}
 use Rattle.wx_script.specs.Ends.{numbered}

@@ -2,7 +2,7 @@
 use Rattle.std.specs.Prelude.{◌≡◌, ℕ, List, Result, Err, reverse}
 use Rattle.wx_outside.specs.Shelf.{Content, present, absent, too_large}
 use Rattle.wx_external.specs.World.{WorldLists}
-use Rattle.wx_machine.specs.Words.{Entry}
+use Rattle.wx_machine.specs.declared.entries.Entry.{Entry}
 use Rattle.wx_journal_text.specs.Text.{journal_text}
 use Rattle.wx_journal_read.specs.Fits.{JournalFits}
 use Rattle.wx_journal.specs.Journal.{IsTextOfNoOther}

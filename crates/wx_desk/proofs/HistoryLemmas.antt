@@ -4,7 +4,10 @@ use Rattle.std.specs.Prelude.{reverse}
 use Rattle.std.proofs.lemmas.List.{append-nil, map-append, length-reverse, reverse-append}
 use Rattle.std.proofs.lemmas.List.Sums.{sum_by-cons}
 use Rattle.std.proofs.lemmas.List.Elements.{All-nil, All-head, All-tail, All-append}
-use Rattle.wx_machine.specs.Words.{Who, Call, Answer, Entry}
+use Rattle.wx_machine.specs.declared.entries.Who.{Who}
+use Rattle.wx_machine.specs.declared.entries.Call.{Call}
+use Rattle.wx_machine.specs.declared.entries.Answer.{Answer}
+use Rattle.wx_machine.specs.declared.entries.Entry.{Entry}
 use Rattle.wx_desk.specs.History.{Seen, entries_in, AreOthers, own_in}
 use Rattle.wx_desk.specs.Desks.{DeskState, past_of, MakesNone, MakesOne}
 

@@ -8,7 +8,11 @@ use Rattle.wx_id.specs.declared.numbers.ContextNo.{ContextNo}
 use Rattle.wx_id.specs.declared.numbers.EntryNo.{EntryNo}
 use Rattle.wx_id.specs.declared.numbers.HostNo.{HostNo}
 use Rattle.wx_external.specs.World.{WorldLists}
-use Rattle.wx_machine.specs.Words.{Who, Call, Answer, Entry, FollowsMachine, may_make, text_in, text_carried, text_of, contexts, is_enter, EachAfter, hosts, starts}
+use Rattle.wx_machine.specs.declared.entries.Who.{Who}
+use Rattle.wx_machine.specs.declared.entries.Call.{Call}
+use Rattle.wx_machine.specs.declared.entries.Answer.{Answer}
+use Rattle.wx_machine.specs.declared.entries.Entry.{Entry}
+use Rattle.wx_machine.specs.Words.{FollowsMachine, may_make, text_in, text_carried, text_of, contexts, is_enter, EachAfter, hosts, starts}
 use Rattle.wx_machine.specs.declared.entries.Who.TheVariants.{Context, Host}
 use Rattle.wx_broker.specs.State.{BrokerState}
 use Rattle.wx_broker.specs.Steps.{Appends, Stays}

@@ -3,7 +3,8 @@ use Rattle.std.proofs.Common.{◌≡◌, ℕ, zero, suc, List, [], ◌∷◌, �
 use Rattle.std.specs.Prelude.{reverse, slice_get}
 use Rattle.std.proofs.lemmas.List.{reverse-append}
 use Rattle.wx_id.specs.declared.numbers.EntryNo.{EntryNo}
-use Rattle.wx_machine.specs.Words.{Entry, text_carried, text_of}
+use Rattle.wx_machine.specs.declared.entries.Entry.{Entry}
+use Rattle.wx_machine.specs.Words.{text_carried, text_of}
 
 text_append : (xs ys : List Entry) (n : ℕ) (text : List ℕ) → text_carried (slice_get xs n) ≡ Some text → text_carried (slice_get (xs ++ ys) n) ≡ Some text
 text_append [] ys n text is = absurd cc

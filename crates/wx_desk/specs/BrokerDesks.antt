@@ -1,7 +1,8 @@
 -- What a desk over a broker that nobody else has tells.
 use Rattle.std.specs.Prelude.{reverse, Bool, true, false, Option, Some, None, is_some}
 use Rattle.wx_id.specs.declared.numbers.EntryNo.{EntryNo}
-use Rattle.wx_machine.specs.Words.{Who, text_of}
+use Rattle.wx_machine.specs.declared.entries.Who.{Who}
+use Rattle.wx_machine.specs.Words.{text_of}
 use Rattle.wx_broker.specs.State.{BrokerState}
 use Rattle.wx_desk.specs.History.{seen_by}
 use Rattle.wx_desk.specs.Desks.{DeskState}

@@ -3,7 +3,11 @@ use Rattle.std.specs.Prelude.{◌≡◌, ◌<◌, Bool, true, List, [], ◌∷�
 use Rattle.wx_id.specs.declared.numbers.ContextNo.{ContextNo}
 use Rattle.wx_id.specs.declared.numbers.HostNo.{HostNo}
 use Rattle.wx_external.specs.World.{WorldLists}
-use Rattle.wx_machine.specs.Words.{Who, Call, Answer, Entry, FollowsMachine, contexts, EachAfter, hosts}
+use Rattle.wx_machine.specs.declared.entries.Who.{Who}
+use Rattle.wx_machine.specs.declared.entries.Call.{Call}
+use Rattle.wx_machine.specs.declared.entries.Answer.{Answer}
+use Rattle.wx_machine.specs.declared.entries.Entry.{Entry}
+use Rattle.wx_machine.specs.Words.{FollowsMachine, contexts, EachAfter, hosts}
 use Rattle.wx_machine.specs.declared.entries.Who.TheVariants.{Context, Host}
 use Rattle.wx_desk.specs.History.{Seen, entries_in, AreOthers}
 

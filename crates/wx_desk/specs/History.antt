@@ -1,6 +1,9 @@
 -- What a desk has seen: entries, of which some were made at it. Every history has the newest entry first.
 use Rattle.std.specs.Prelude.{◌≡◌, ℕ, Bool, true, false, List, [], ◌∷◌, ◌++◌, All, map, cond, count_by}
-use Rattle.wx_machine.specs.Words.{Who, Call, Entry, is_by, is_by_host}
+use Rattle.wx_machine.specs.declared.entries.Who.{Who}
+use Rattle.wx_machine.specs.declared.entries.Call.{Call}
+use Rattle.wx_machine.specs.declared.entries.Entry.{Entry}
+use Rattle.wx_machine.specs.Words.{is_by, is_by_host}
 use Rattle.wx_machine.specs.declared.entries.Who.TheVariants.{Context, Host}
 
 -- an entry, and whether it was made at this desk

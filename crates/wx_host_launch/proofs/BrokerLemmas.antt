@@ -5,7 +5,10 @@ use Rattle.std.proofs.lemmas.Bool.{false≢true}
 use Rattle.wx_id.specs.declared.numbers.HostNo.{HostNo}
 use Rattle.wx_id.specs.declared.numbers.EntryNo.{EntryNo}
 use Rattle.wx_machine.specs.declared.entries.Who.TheVariants.{Host}
-use Rattle.wx_machine.specs.Words.{Call, Reason, Answer, FollowsMachine, may_make, is_host_ready, EachAfter, hosts, next_text}
+use Rattle.wx_machine.specs.declared.entries.Call.{Call}
+use Rattle.wx_machine.specs.declared.entries.Reason.{Reason}
+use Rattle.wx_machine.specs.declared.entries.Answer.{Answer}
+use Rattle.wx_machine.specs.Words.{FollowsMachine, may_make, is_host_ready, EachAfter, hosts, next_text}
 use Rattle.wx_machine.specs.declared.entries.Call.TheVariants.{HostTake, HostEnded}
 use Rattle.wx_machine.specs.declared.entries.Answer.TheVariants.{Text as HasText}
 use Rattle.wx_broker.specs.State.{BrokerState}

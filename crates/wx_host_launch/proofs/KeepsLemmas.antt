@@ -10,7 +10,7 @@ use Rattle.wx_native_frame.specs.declared.FrameFault.{FrameFault}
 use Rattle.wx_native_frame.specs.declared.FrameFault.TheVariants as fault
 use Rattle.wx_native_frame.proofs.FrameLaws.{trouble-append, trouble_no_frame}
 use Rattle.wx_native_frame.proofs.SplitLaws.{one_split, one_trouble}
-use Rattle.wx_machine.specs.Words.{Reason}
+use Rattle.wx_machine.specs.declared.entries.Reason.{Reason}
 use Rattle.wx_machine.specs.declared.entries.Reason.TheVariants.{StartFailed, ReadFailed, WriteFailed, TooLong, BadJson, Cut, Exited, Closed}
 use Rattle.wx_machine.specs.declared.entries.TheConstants.{LONGEST_SAID}
 use Rattle.wx_host_launch.specs.Pipes.{OutState}

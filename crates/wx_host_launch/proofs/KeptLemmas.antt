@@ -1,7 +1,9 @@
 -- A turn keeps the desk's host and its world.
 use Rattle.std.proofs.Common.{◌≡◌, ℕ, List, ◌∙◌, sym, subst}
 use Rattle.wx_native_frame.specs.Frames.{Unfinished}
-use Rattle.wx_machine.specs.Words.{Call, Reason, Answer}
+use Rattle.wx_machine.specs.declared.entries.Call.{Call}
+use Rattle.wx_machine.specs.declared.entries.Reason.{Reason}
+use Rattle.wx_machine.specs.declared.entries.Answer.{Answer}
 use Rattle.wx_machine.specs.declared.entries.Call.TheVariants.{HostTake, HostSaid, HostEnded}
 use Rattle.wx_machine.specs.declared.entries.Reason.TheVariants.{WriteFailed}
 use Rattle.wx_machine.specs.declared.entries.Answer.TheVariants.{Text as HasText, End as NoMore}

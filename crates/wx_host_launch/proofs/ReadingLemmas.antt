@@ -13,7 +13,7 @@ use Rattle.wx_native_frame.proofs.Lengths.{told-append, append_take-drop}
 use Rattle.wx_native_frame.proofs.FrameLaws.{frame-length, frame-told, short_no_trouble, trouble_no_frame}
 use Rattle.wx_native_frame.proofs.StepLaws.{stops_first}
 use Rattle.wx_native_frame.proofs.SplitLaws.{end_no_trouble}
-use Rattle.wx_machine.specs.Words.{Reason}
+use Rattle.wx_machine.specs.declared.entries.Reason.{Reason}
 use Rattle.wx_machine.specs.declared.entries.Reason.TheVariants.{StartFailed, ReadFailed, WriteFailed, TooLong, BadJson, Cut, Exited, Closed}
 use Rattle.wx_machine.specs.declared.entries.TheConstants.{LONGEST_SAID}
 use Rattle.wx_outside.specs.Causes.{Rose}

@@ -1,7 +1,10 @@
 -- Steps at a host's desk, one after the other.
 use Rattle.std.proofs.Common.{◌≡◌, ℕ, List, [], ◌∷◌, ◌++◌, cond, refl, ap, ◌∙◌, sym, subst, append_assoc}
 use Rattle.std.proofs.lemmas.List.{append-nil, map-append}
-use Rattle.wx_machine.specs.Words.{Call, Reason, Answer, Entry}
+use Rattle.wx_machine.specs.declared.entries.Call.{Call}
+use Rattle.wx_machine.specs.declared.entries.Reason.{Reason}
+use Rattle.wx_machine.specs.declared.entries.Answer.{Answer}
+use Rattle.wx_machine.specs.declared.entries.Entry.{Entry}
 use Rattle.wx_machine.specs.declared.entries.Call.TheVariants.{HostEnded}
 use Rattle.wx_desk.specs.History.{Seen, entries_in, AreOthers, calls_in, EachOwn}
 use Rattle.wx_desk.specs.Desks.{HostDeskState, past_of, MakesNone, MakesOne, own_entry}

@@ -8,7 +8,11 @@ use Rattle.wx_native_frame.specs.Frames.{Unfinished, frame, IsFrame}
 use Rattle.wx_native_frame.specs.Splits.{frames, IsSplit}
 use Rattle.wx_native_frame.proofs.SplitLaws.{split_nothing, split_frame, split_rest}
 use Rattle.wx_native_frame.proofs.FrameLaws.{short_under_way}
-use Rattle.wx_machine.specs.Words.{Call, Reason, Answer, Entry, FollowsMachine, is_host_ready, text_of, EachAfter, next_text, said_closed}
+use Rattle.wx_machine.specs.declared.entries.Call.{Call}
+use Rattle.wx_machine.specs.declared.entries.Reason.{Reason}
+use Rattle.wx_machine.specs.declared.entries.Answer.{Answer}
+use Rattle.wx_machine.specs.declared.entries.Entry.{Entry}
+use Rattle.wx_machine.specs.Words.{FollowsMachine, is_host_ready, text_of, EachAfter, next_text, said_closed}
 use Rattle.wx_machine.specs.declared.entries.Call.TheVariants.{HostTake, HostSaid, HostEnded}
 use Rattle.wx_machine.specs.declared.entries.Reason.TheVariants.{StartFailed, ReadFailed, WriteFailed, TooLong, BadJson, Cut, Exited, Closed}
 use Rattle.wx_machine.specs.declared.entries.Answer.TheVariants as answer

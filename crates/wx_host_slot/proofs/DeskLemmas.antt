@@ -5,7 +5,11 @@ use Rattle.std.proofs.lemmas.List.{map-append, append_cancel_right}
 use Rattle.wx_id.specs.declared.numbers.HostNo.{HostNo}
 use Rattle.wx_external.specs.World.{WorldLists}
 use Rattle.wx_machine.specs.declared.entries.Who.TheVariants.{Host as ByHost}
-use Rattle.wx_machine.specs.Words.{Call, Reason, Answer, Entry, FollowsMachine, is_host_ready, EachAfter, is_by_host, next_text}
+use Rattle.wx_machine.specs.declared.entries.Call.{Call}
+use Rattle.wx_machine.specs.declared.entries.Reason.{Reason}
+use Rattle.wx_machine.specs.declared.entries.Answer.{Answer}
+use Rattle.wx_machine.specs.declared.entries.Entry.{Entry}
+use Rattle.wx_machine.specs.Words.{FollowsMachine, is_host_ready, EachAfter, is_by_host, next_text}
 use Rattle.wx_machine.specs.declared.entries.Call.TheVariants.{HostTake, HostEnded}
 use Rattle.wx_broker.specs.State.{BrokerState}
 use Rattle.wx_desk.specs.History.{Seen, entries_in, calls_in, seen_by}

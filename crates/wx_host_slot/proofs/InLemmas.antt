@@ -8,7 +8,9 @@ use Rattle.wx_external.specs.World.{WorldLists}
 use Rattle.wx_native_frame.specs.Splits.{frames, IsSplit}
 use Rattle.wx_machine.specs.declared.entries.Call.TheVariants.{HostTake, HostEnded}
 use Rattle.wx_machine.specs.declared.entries.Reason.TheVariants.{WriteFailed}
-use Rattle.wx_machine.specs.Words.{Answer, Entry, FollowsMachine, is_host_ready, EachAfter, has_ended}
+use Rattle.wx_machine.specs.declared.entries.Answer.{Answer}
+use Rattle.wx_machine.specs.declared.entries.Entry.{Entry}
+use Rattle.wx_machine.specs.Words.{FollowsMachine, is_host_ready, EachAfter, has_ended}
 use Rattle.wx_machine.specs.declared.entries.Answer.TheVariants.{Text as HasText, End as NoMore}
 use Rattle.wx_machine.specs.declared.entries.TheConstants.{LONGEST_SAID}
 use Rattle.wx_outside.specs.Causes.{Rose}

@@ -8,7 +8,10 @@ use Rattle.wx_id.specs.declared.numbers.HostNo.{HostNo}
 use Rattle.wx_context.specs.declared.contexts.Context.{Context}
 use Rattle.wx_external.specs.World.{WorldLists}
 use Rattle.wx_machine.specs.declared.entries.Who.TheVariants.{Host as ByHost}
-use Rattle.wx_machine.specs.Words.{Call, Answer, Entry, context_of, enters, if_numbered, Start, starts, hosts, is_by_host, has_ended, is_host_end}
+use Rattle.wx_machine.specs.declared.entries.Call.{Call}
+use Rattle.wx_machine.specs.declared.entries.Answer.{Answer}
+use Rattle.wx_machine.specs.declared.entries.Entry.{Entry}
+use Rattle.wx_machine.specs.Words.{context_of, enters, if_numbered, Start, starts, hosts, is_by_host, has_ended, is_host_end}
 use Rattle.wx_broker.specs.Views.{view_for, view_of}
 use Rattle.wx_host_launch.specs.Halves.{text_of_take, text_said}
 use Rattle.wx_host_launch.specs.Records.{Program}

@@ -9,7 +9,10 @@ use Rattle.wx_external.specs.World.{WorldLists}
 use Rattle.wx_native_frame.specs.Frames.{Unfinished}
 use Rattle.wx_native_frame.specs.Splits.{frames, AllFit, IsSplit}
 use Rattle.wx_machine.specs.declared.entries.Call.TheVariants.{HostSaid, HostEnded}
-use Rattle.wx_machine.specs.Words.{Reason, Answer, Entry, is_host_ready, is_news, text_or_end, work_of, has_ended, next_text, is_over as is_done, knows_end}
+use Rattle.wx_machine.specs.declared.entries.Reason.{Reason}
+use Rattle.wx_machine.specs.declared.entries.Answer.{Answer}
+use Rattle.wx_machine.specs.declared.entries.Entry.{Entry}
+use Rattle.wx_machine.specs.Words.{is_host_ready, is_news, text_or_end, work_of, has_ended, next_text, is_over as is_done, knows_end}
 use Rattle.wx_machine.specs.declared.entries.Reason.TheVariants.{StartFailed, ReadFailed, WriteFailed, TooLong, BadJson, Cut, Exited, Closed}
 use Rattle.wx_machine.specs.declared.entries.TheConstants.{LONGEST_SAID}
 use Rattle.wx_outside.specs.Causes.{Rose}

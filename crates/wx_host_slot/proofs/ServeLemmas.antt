@@ -8,7 +8,9 @@ use Rattle.wx_native_frame.specs.Frames.{Unfinished}
 use Rattle.wx_machine.specs.declared.entries.Who.TheVariants.{Host as ByHost}
 use Rattle.wx_machine.specs.declared.entries.Call.TheVariants.{HostEnded}
 use Rattle.wx_machine.specs.declared.entries.Reason.TheVariants.{StartFailed}
-use Rattle.wx_machine.specs.Words.{Answer, Entry, FollowsMachine, IsLegal, is_host_ready, EachAfter, has_ended}
+use Rattle.wx_machine.specs.declared.entries.Answer.{Answer}
+use Rattle.wx_machine.specs.declared.entries.Entry.{Entry}
+use Rattle.wx_machine.specs.Words.{FollowsMachine, IsLegal, is_host_ready, EachAfter, has_ended}
 use Rattle.wx_machine.specs.declared.entries.TheConstants.{LONGEST_SAID}
 use Rattle.wx_broker.specs.State.{BrokerState}
 use Rattle.wx_outside.specs.Causes.{Rose}

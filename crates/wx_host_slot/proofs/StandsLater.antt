@@ -6,7 +6,9 @@ use Rattle.wx_id.specs.declared.numbers.HostNo.{HostNo}
 use Rattle.wx_external.specs.World.{WorldLists}
 use Rattle.wx_native_frame.specs.Splits.{IsSplit}
 use Rattle.wx_native_frame.proofs.FrameLaws.{short_under_way}
-use Rattle.wx_machine.specs.Words.{Call, Entry, hosts, is_by_host, has_ended, is_host_end}
+use Rattle.wx_machine.specs.declared.entries.Call.{Call}
+use Rattle.wx_machine.specs.declared.entries.Entry.{Entry}
+use Rattle.wx_machine.specs.Words.{hosts, is_by_host, has_ended, is_host_end}
 use Rattle.wx_machine.specs.declared.entries.Call.TheVariants.{HostEnded}
 use Rattle.wx_machine.specs.declared.entries.TheConstants.{LONGEST_SAID}
 use Rattle.wx_host_launch.specs.Halves.{Sends, whole}

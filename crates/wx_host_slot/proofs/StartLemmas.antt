@@ -16,7 +16,9 @@ use Rattle.wx_native_frame.specs.Frames.{Unfinished}
 use Rattle.wx_native_frame.proofs.FrameLaws.{short_under_way}
 use Rattle.wx_machine.specs.declared.entries.Call.TheVariants.{HostEnded}
 use Rattle.wx_machine.specs.declared.entries.Reason.TheVariants.{StartFailed}
-use Rattle.wx_machine.specs.Words.{Answer, Entry, context_of, extension_of, Start, hosts}
+use Rattle.wx_machine.specs.declared.entries.Answer.{Answer}
+use Rattle.wx_machine.specs.declared.entries.Entry.{Entry}
+use Rattle.wx_machine.specs.Words.{context_of, extension_of, Start, hosts}
 use Rattle.wx_machine.specs.declared.entries.TheConstants.{LONGEST_SAID}
 use Rattle.wx_broker.specs.declared.host_view.HostView.{HostView}
 use Rattle.wx_broker.specs.Views.{view_at, view_for, view_of, host_view}

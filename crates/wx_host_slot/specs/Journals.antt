@@ -3,7 +3,10 @@ use Rattle.std.specs.Prelude.{◌≡◌, ℕ, ◌+◌, List, [], ◌∷◌, ◌+
 use Rattle.wx_id.specs.declared.numbers.HostNo.{HostNo}
 use Rattle.wx_external.specs.World.{WorldLists}
 use Rattle.wx_host_manifest.specs.HostManifests.{Host, arguments_of}
-use Rattle.wx_machine.specs.Words.{Call, Reason, Entry, is_host_ready, is_by_host, next_text}
+use Rattle.wx_machine.specs.declared.entries.Call.{Call}
+use Rattle.wx_machine.specs.declared.entries.Reason.{Reason}
+use Rattle.wx_machine.specs.declared.entries.Entry.{Entry}
+use Rattle.wx_machine.specs.Words.{is_host_ready, is_by_host, next_text}
 use Rattle.wx_machine.specs.declared.entries.Call.TheVariants.{HostTake, HostEnded}
 use Rattle.wx_machine.specs.declared.entries.Reason.TheVariants.{StartFailed, WriteFailed}
 use Rattle.wx_broker.specs.declared.host_view.HostView.{HostView}

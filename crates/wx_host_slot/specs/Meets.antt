@@ -5,7 +5,9 @@ use Rattle.wx_external.specs.World.{WorldLists}
 use Rattle.wx_native_frame.specs.Frames.{IsTrouble}
 use Rattle.wx_native_frame.specs.Splits.{IsSplit}
 use Rattle.wx_native_frame.specs.declared.FrameFault.TheVariants as fault
-use Rattle.wx_machine.specs.Words.{Call, Reason, Entry}
+use Rattle.wx_machine.specs.declared.entries.Call.{Call}
+use Rattle.wx_machine.specs.declared.entries.Reason.{Reason}
+use Rattle.wx_machine.specs.declared.entries.Entry.{Entry}
 use Rattle.wx_machine.specs.declared.entries.Call.TheVariants.{HostEnded}
 use Rattle.wx_machine.specs.declared.entries.Reason.TheVariants.{StartFailed, ReadFailed, WriteFailed, TooLong, BadJson, Cut, Exited, Closed}
 use Rattle.wx_machine.specs.declared.entries.TheConstants.{LONGEST_SAID}

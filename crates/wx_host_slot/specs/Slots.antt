@@ -5,7 +5,8 @@ use Rattle.wx_id.specs.declared.numbers.HostNo.{HostNo}
 use Rattle.wx_external.specs.World.{WorldLists}
 use Rattle.wx_native_frame.specs.Frames.{Unfinished}
 use Rattle.wx_native_frame.specs.Splits.{frames, IsSplit}
-use Rattle.wx_machine.specs.Words.{Entry, is_host_ready, has_ended}
+use Rattle.wx_machine.specs.declared.entries.Entry.{Entry}
+use Rattle.wx_machine.specs.Words.{is_host_ready, has_ended}
 use Rattle.wx_machine.specs.declared.entries.TheConstants.{LONGEST_SAID}
 use Rattle.wx_host_launch.specs.Pipes.{InState, OutState, Stream}
 use Rattle.wx_host_launch.specs.Reading.{Keeps}

@@ -3,7 +3,11 @@ use Rattle.std.specs.Prelude.{◌≡◌, ℕ, List, ◌∷◌, true, false}
 use Rattle.wx_id.specs.declared.numbers.EntryNo.{EntryNo}
 use Rattle.wx_id.specs.declared.numbers.HostNo.{HostNo}
 use Rattle.wx_machine.specs.declared.entries.Who.TheVariants.{Host as ByHost}
-use Rattle.wx_machine.specs.Words.{Call, Reason, Answer, Entry, is_host_ready}
+use Rattle.wx_machine.specs.declared.entries.Call.{Call}
+use Rattle.wx_machine.specs.declared.entries.Reason.{Reason}
+use Rattle.wx_machine.specs.declared.entries.Answer.{Answer}
+use Rattle.wx_machine.specs.declared.entries.Entry.{Entry}
+use Rattle.wx_machine.specs.Words.{is_host_ready}
 use Rattle.wx_machine.specs.declared.entries.Call.TheVariants.{HostTake, HostSaid, HostEnded}
 use Rattle.wx_machine.specs.declared.entries.Reason.TheVariants.{StartFailed, WriteFailed}
 use Rattle.wx_machine.specs.declared.entries.Answer.TheVariants.{Text as HasText}

@@ -1,6 +1,6 @@
 -- What contracts see of a journal.
 use Rattle.std.specs.Prelude.{◌≡◌, ℕ, List}
-use Rattle.wx_machine.specs.Words.{Entry}
+use Rattle.wx_machine.specs.declared.entries.Entry.{Entry}
 use Rattle.wx_journal_read.specs.Fits.{JournalFits}
 use Rattle.wx_journal_text.specs.Text.{journal_text}
 

@@ -2,7 +2,10 @@
 use Rattle.std.proofs.Common.{◌≡◌, ℕ, ◌^◌, ◌<◌, List, ◌++◌, length, Some, refl, ap, subst, ◌∙◌, append_assoc}
 use Rattle.std.specs.Prelude.{codes}
 use Rattle.std.proofs.lemmas.Option.{same_Some}
-use Rattle.wx_machine.specs.Words.{Who, Call, Answer, Entry}
+use Rattle.wx_machine.specs.declared.entries.Who.{Who}
+use Rattle.wx_machine.specs.declared.entries.Call.{Call}
+use Rattle.wx_machine.specs.declared.entries.Answer.{Answer}
+use Rattle.wx_machine.specs.declared.entries.Entry.{Entry}
 use Rattle.wx_journal_text.specs.Text.{who_text, call_text, answer_text, entry_text}
 use Rattle.wx_journal_read.specs.Reading.{behind, both_at}
 use Rattle.wx_journal_read.specs.Fits.{WhoFits, CallFits, AnswerFits, EntryFits}

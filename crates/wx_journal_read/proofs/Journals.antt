@@ -5,7 +5,7 @@ use Rattle.std.proofs.lemmas.List.{append-nil, nil_from_length}
 use Rattle.std.proofs.lemmas.Bool.{eqb-true}
 use Rattle.std.proofs.lemmas.Option.{same_Some}
 use Rattle.std.proofs.lemmas.List.Concat.{flat_map-append}
-use Rattle.wx_machine.specs.Words.{Entry}
+use Rattle.wx_machine.specs.declared.entries.Entry.{Entry}
 use Rattle.wx_journal_text.specs.Text.{entry_text, journal_text}
 use Rattle.wx_journal_read.specs.declared.fault.JournalFault.{JournalFault}
 use Rattle.wx_journal_read.specs.declared.fault.JournalKind.TheVariants.{Head, Line}

@@ -18,7 +18,7 @@ use Rattle.wx_context.specs.Paths.{is_page_path}
 use Rattle.wx_context.specs.declared.contexts.Context.TheVariants.{Page, Content, Web}
 use Rattle.wx_context.specs.declared.contexts.Target.TheVariants.{Own, Other, Tab}
 use Rattle.wx_context.specs.declared.contexts.Listens.{Listens}
-use Rattle.wx_machine.specs.Words.{Who}
+use Rattle.wx_machine.specs.declared.entries.Who.{Who}
 use Rattle.wx_machine.specs.declared.entries.Who.TheVariants.{Context as ByContext, Host as ByHost}
 use Rattle.wx_journal_text.specs.Text.{sized, who_text, frame_text, target_text, context_text, flag, listens_text}
 use Rattle.wx_id.specs.Options.{where_so}

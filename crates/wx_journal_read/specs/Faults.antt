@@ -1,6 +1,6 @@
 -- What is wrong with bytes that are no journal's text.
 use Rattle.std.specs.Prelude.{◌≡◌, ℕ, ◌<◌, ◌≤◌, List, ◌++◌, length, codes}
-use Rattle.wx_machine.specs.Words.{Entry}
+use Rattle.wx_machine.specs.declared.entries.Entry.{Entry}
 use Rattle.wx_journal_text.specs.Text.{journal_text}
 use Rattle.wx_journal_read.specs.declared.fault.JournalFault.{JournalFault}
 use Rattle.wx_journal_read.specs.declared.fault.JournalKind.{JournalKind}

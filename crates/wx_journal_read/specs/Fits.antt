@@ -13,7 +13,11 @@ use Rattle.wx_context.specs.declared.contexts.Context.{Context}
 use Rattle.wx_context.specs.declared.contexts.Context.TheVariants.{Page, Content, Web}
 use Rattle.wx_context.specs.declared.contexts.Target.{Target}
 use Rattle.wx_context.specs.declared.contexts.Target.TheVariants.{Own, Other, Tab}
-use Rattle.wx_machine.specs.Words.{Who, Call, Reason, Answer, Entry}
+use Rattle.wx_machine.specs.declared.entries.Who.{Who}
+use Rattle.wx_machine.specs.declared.entries.Call.{Call}
+use Rattle.wx_machine.specs.declared.entries.Reason.{Reason}
+use Rattle.wx_machine.specs.declared.entries.Answer.{Answer}
+use Rattle.wx_machine.specs.declared.entries.Entry.{Entry}
 use Rattle.wx_machine.specs.declared.entries.Who.TheVariants.{Context as ByContext, Host as ByHost}
 use Rattle.wx_machine.specs.declared.entries.Call.TheVariants.{Enter, Listen, Leave, Connect, Post, Disconnect, Send, Reply, Decline, Take, ConnectNative, SendNative, HostTake, HostSaid, HostEnded}
 use Rattle.wx_machine.specs.declared.entries.Reason.TheVariants as reason

@@ -1,6 +1,6 @@
 -- What a function returned is what reading gives, unless memory ran out.
 use Rattle.std.specs.Prelude.{◌≡◌, List, Option, Some, None, Result, Ok, Err}
-use Rattle.wx_machine.specs.Words.{Entry}
+use Rattle.wx_machine.specs.declared.entries.Entry.{Entry}
 use Rattle.wx_journal_read.specs.declared.fault.Fault.{Fault}
 use Rattle.wx_journal_read.specs.declared.fault.Fault.TheVariants as faults
 use Rattle.wx_journal_read.specs.declared.fault.JournalFault.{JournalFault}

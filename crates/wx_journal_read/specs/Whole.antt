@@ -1,6 +1,6 @@
 -- What is read as a journal.
 use Rattle.std.specs.Prelude.{ℕ, ◌-◌, ◌==◌, List, length, Option, Some, None, Result, Ok, Err, if◌then◌else◌}
-use Rattle.wx_machine.specs.Words.{Entry}
+use Rattle.wx_machine.specs.declared.entries.Entry.{Entry}
 use Rattle.wx_journal_read.specs.declared.fault.JournalFault.{JournalFault}
 use Rattle.wx_journal_read.specs.declared.fault.JournalKind.TheVariants.{Head, Line}
 use Rattle.wx_journal_read.specs.Reading.{behind}

@@ -17,10 +17,15 @@ use Rattle.wx_id.specs.declared.events.End.{End}
 use Rattle.wx_id.specs.declared.events.End.TheVariants.{Opener, Receiver, Neither}
 use Rattle.wx_id.specs.declared.events.EventKind.TheVariants.{Connected, Message, Disconnected, Asked}
 use Rattle.wx_external.specs.World.{WorldLists}
-use Rattle.wx_machine.specs.Words.{is_by, is_leave, is_live, receivers_of, Ends, opened_by, opens, channels, channel, end_in, asks, requests, is_asked, work_of}
-use Rattle.wx_machine.specs.Words.{has_live, leaving, ends_by, ends_channel, is_closed, closes, is_receiving, on, connected, side_of, goes, goes_to, said}
-use Rattle.wx_machine.specs.Words.{message, disconnected, asked, replied, unanswered, tells, marked, delivered, queued, event_in, taken, same_event, is_of}
-use Rattle.wx_machine.specs.Words.{drops_by, is_dropped, is_waiting, pending, at_end, said_for, answer_after, Who, Call, Answer, Entry, Work}
+use Rattle.wx_machine.specs.declared.entries.Who.{Who}
+use Rattle.wx_machine.specs.declared.entries.Call.{Call}
+use Rattle.wx_machine.specs.declared.entries.Answer.{Answer}
+use Rattle.wx_machine.specs.declared.entries.Entry.{Entry}
+use Rattle.wx_machine.specs.declared.work.Work.{Work}
+use Rattle.wx_machine.specs.Words.{is_by, is_leave, is_live, receivers_of, Ends, opened_by, opens, channels, channel, end_in, asks, requests, is_asked}
+use Rattle.wx_machine.specs.Words.{work_of, has_live, leaving, ends_by, ends_channel, is_closed, closes, is_receiving, on, connected, side_of, goes}
+use Rattle.wx_machine.specs.Words.{goes_to, said, message, disconnected, asked, replied, unanswered, tells, marked, delivered, queued, event_in, taken}
+use Rattle.wx_machine.specs.Words.{same_event, is_of, drops_by, is_dropped, is_waiting, pending, at_end, said_for, answer_after}
 use Rattle.wx_machine.specs.declared.entries.TheConstants.{LONGEST}
 use Rattle.wx_machine.specs.declared.entries.Who.TheVariants.{Context as ByContext, Host as ByHost}
 use Rattle.wx_machine.specs.declared.entries.Call.TheVariants.{Leave, Connect, Post, Disconnect, ConnectNative, HostSaid}

@@ -7,9 +7,15 @@ use Rattle.wx_id.specs.declared.numbers.RequestNo.{RequestNo}
 use Rattle.wx_id.specs.declared.numbers.HostNo.{HostNo}
 use Rattle.wx_id.specs.declared.events.EventKind.{EventKind}
 use Rattle.wx_id.specs.declared.events.EventKind.TheVariants.{Message, Disconnected, Replied, Closed}
-use Rattle.wx_machine.specs.Words.{is_by, is_live, channels, channel, end_in, requests, request, is_asker, is_asked, work_of, is_for_channel, is_for_request}
-use Rattle.wx_machine.specs.Words.{is_one, is_closed, closes, has_open, is_settled, settles, on, goes_to, work_by, said, message, host_disconnected}
-use Rattle.wx_machine.specs.Words.{disconnected, answered, replied, host_unanswered, unanswered, Who, Call, Answer, Reason, Entry, Work}
+use Rattle.wx_machine.specs.declared.entries.Who.{Who}
+use Rattle.wx_machine.specs.declared.entries.Call.{Call}
+use Rattle.wx_machine.specs.declared.entries.Answer.{Answer}
+use Rattle.wx_machine.specs.declared.entries.Reason.{Reason}
+use Rattle.wx_machine.specs.declared.entries.Entry.{Entry}
+use Rattle.wx_machine.specs.declared.work.Work.{Work}
+use Rattle.wx_machine.specs.Words.{is_by, is_live, channels, channel, end_in, requests, request, is_asker, is_asked, work_of, is_for_channel}
+use Rattle.wx_machine.specs.Words.{is_for_request, is_one, is_closed, closes, has_open, is_settled, settles, on, goes_to, work_by, said}
+use Rattle.wx_machine.specs.Words.{message, host_disconnected, disconnected, answered, replied, host_unanswered, unanswered}
 use Rattle.wx_machine.specs.declared.entries.Who.TheVariants.{Context as ByContext, Host as ByHost}
 use Rattle.wx_machine.specs.declared.entries.Call.TheVariants.{Leave, Post, Disconnect, Reply, Decline, HostSaid, HostEnded}
 use Rattle.wx_machine.specs.declared.entries.Answer.TheVariants.{Posted, First, Passed}

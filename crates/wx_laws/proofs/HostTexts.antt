@@ -15,9 +15,14 @@ use Rattle.wx_id.specs.declared.numbers.RequestNo.{RequestNo}
 use Rattle.wx_id.specs.declared.numbers.HostNo.{HostNo}
 use Rattle.wx_id.specs.declared.numbers.EntryNo.{EntryNo}
 use Rattle.wx_external.specs.World.{WorldLists}
-use Rattle.wx_machine.specs.Words.{first, text_of, is_live, Ends, opens, channels, channel, end_in, Parties, asks, requests, Start, started_by}
-use Rattle.wx_machine.specs.Words.{starts, hosts, work_in, work_of, is_by_host, is_closed, has_ended, is_text_for, texts_for, text_taken, texts_taken}
-use Rattle.wx_machine.specs.Words.{texts_left, is_over, at_end, text_or_end, answer_after, Who, Call, Answer, Entry, Work}
+use Rattle.wx_machine.specs.declared.entries.Who.{Who}
+use Rattle.wx_machine.specs.declared.entries.Call.{Call}
+use Rattle.wx_machine.specs.declared.entries.Answer.{Answer}
+use Rattle.wx_machine.specs.declared.entries.Entry.{Entry}
+use Rattle.wx_machine.specs.declared.work.Work.{Work}
+use Rattle.wx_machine.specs.Words.{first, text_of, is_live, Ends, opens, channels, channel, end_in, Parties, asks, requests, Start}
+use Rattle.wx_machine.specs.Words.{started_by, starts, hosts, work_in, work_of, is_by_host, is_closed, has_ended, is_text_for, texts_for}
+use Rattle.wx_machine.specs.Words.{text_taken, texts_taken, texts_left, is_over, at_end, text_or_end, answer_after}
 use Rattle.wx_machine.specs.declared.entries.TheConstants.{LONGEST}
 use Rattle.wx_machine.specs.declared.entries.Who.TheVariants.{Context as ByContext, Host as ByHost}
 use Rattle.wx_machine.specs.declared.entries.Call.TheVariants.{Post, ConnectNative, SendNative, HostTake}

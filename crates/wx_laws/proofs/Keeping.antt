@@ -9,7 +9,8 @@ use Rattle.wx_id.specs.declared.numbers.ContextNo.{ContextNo}
 use Rattle.wx_id.specs.declared.numbers.HostNo.{HostNo}
 use Rattle.wx_id.specs.declared.events.EventKind.TheVariants.{Disconnected}
 use Rattle.wx_external.specs.World.{WorldLists}
-use Rattle.wx_machine.specs.Words.{is_live, channel, end_in, ends_channel, closed_at, is_closed, closes, on, side_of, IsLegal, Entry}
+use Rattle.wx_machine.specs.declared.entries.Entry.{Entry}
+use Rattle.wx_machine.specs.Words.{is_live, channel, end_in, ends_channel, closed_at, is_closed, closes, on, side_of, IsLegal}
 use Rattle.wx_laws.specs.Legal.{IsLegalPast}
 use Rattle.wx_laws.specs.ClosingLaw.{are_across, is_disconnected}
 use Rattle.wx_laws.specs.Keeping.{before, IsEntry, told, is_at, KeepsChannel, KeepsRequest, KeepsHost, KeepsRefusals, LegalKeepsLaws}

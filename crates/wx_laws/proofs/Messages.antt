@@ -19,11 +19,15 @@ use Rattle.wx_id.specs.declared.events.EventKind.TheVariants.{Connected, Message
 use Rattle.wx_context.specs.declared.contexts.Context.{Context}
 use Rattle.wx_context.specs.declared.contexts.Target.{Target}
 use Rattle.wx_external.specs.World.{WorldLists}
-use Rattle.wx_machine.specs.Words.{first, text_in, text_carried, text_of, is_by, enters, if_numbered, context_of, is_there, has_left, is_live, listens_of}
-use Rattle.wx_machine.specs.Words.{numbers, reaches_from, is_receiver, receivers_of, Ends, opened_by, opens, channels, channel, end_in, asks, requests}
-use Rattle.wx_machine.specs.Words.{is_asked, work_of, is_for_channel, is_one, ends_by, is_closed, is_receiving, on, connected, side_of, goes, goes_to}
-use Rattle.wx_machine.specs.Words.{said, message, disconnected, asked, replied, unanswered, tells, marked, delivered, queued, event_in, taken, is_of}
-use Rattle.wx_machine.specs.Words.{drops_by, pending, at_end, answer_after, Who, Call, Answer, Entry, Work}
+use Rattle.wx_machine.specs.declared.entries.Who.{Who}
+use Rattle.wx_machine.specs.declared.entries.Call.{Call}
+use Rattle.wx_machine.specs.declared.entries.Answer.{Answer}
+use Rattle.wx_machine.specs.declared.entries.Entry.{Entry}
+use Rattle.wx_machine.specs.declared.work.Work.{Work}
+use Rattle.wx_machine.specs.Words.{first, text_in, text_carried, text_of, is_by, enters, if_numbered, context_of, is_there, has_left, is_live, listens_of, numbers}
+use Rattle.wx_machine.specs.Words.{reaches_from, is_receiver, receivers_of, Ends, opened_by, opens, channels, channel, end_in, asks, requests, is_asked, work_of, is_for_channel}
+use Rattle.wx_machine.specs.Words.{is_one, ends_by, is_closed, is_receiving, on, connected, side_of, goes, goes_to, said, message, disconnected, asked, replied, unanswered}
+use Rattle.wx_machine.specs.Words.{tells, marked, delivered, queued, event_in, taken, is_of, drops_by, pending, at_end, answer_after}
 use Rattle.wx_machine.specs.declared.entries.Who.TheVariants.{Context as ByContext, Host as ByHost}
 use Rattle.wx_machine.specs.declared.entries.Call.TheVariants.{Connect, Post, Disconnect, Take, ConnectNative, HostSaid}
 use Rattle.wx_machine.specs.declared.entries.Answer.TheVariants.{Done, Gone, Posted, NoEffect, Passed, Channel as OnChannel, Event as Told}

@@ -1,7 +1,7 @@
 -- What stands before an entry of a legal past is one.
 use Rattle.std.proofs.Common.{List, [], ◌∷◌, ◌++◌, subst}
 use Rattle.wx_external.specs.World.{WorldLists}
-use Rattle.wx_machine.specs.Words.{Entry}
+use Rattle.wx_machine.specs.declared.entries.Entry.{Entry}
 use Rattle.wx_laws.specs.Earlier.{EarlierIsLegal}
 use Rattle.wx_laws.specs.Legal.{IsLegalPast}
 

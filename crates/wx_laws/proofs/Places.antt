@@ -12,9 +12,12 @@ use Rattle.wx_id.specs.declared.numbers.HostNo.{HostNo}
 use Rattle.wx_id.specs.declared.events.End.{End}
 use Rattle.wx_id.specs.declared.events.End.TheVariants.{Opener, Receiver, Neither}
 use Rattle.wx_context.specs.declared.contexts.Context.{Context}
-use Rattle.wx_machine.specs.Words.{is_by, enters, if_numbered, context_of, is_there, is_leave, has_left, is_live, Ends, opens, channels}
-use Rattle.wx_machine.specs.Words.{channel, end_in, Start, started_by, starts, hosts, work_in, work_of, is_for_channel, has_live}
-use Rattle.wx_machine.specs.Words.{is_one, leaving, ends_by, ends_channel, closed_at, is_closed, Who, Call, Answer, Entry}
+use Rattle.wx_machine.specs.declared.entries.Who.{Who}
+use Rattle.wx_machine.specs.declared.entries.Call.{Call}
+use Rattle.wx_machine.specs.declared.entries.Answer.{Answer}
+use Rattle.wx_machine.specs.declared.entries.Entry.{Entry}
+use Rattle.wx_machine.specs.Words.{is_by, enters, if_numbered, context_of, is_there, is_leave, has_left, is_live, Ends, opens, channels, channel, end_in, Start, started_by}
+use Rattle.wx_machine.specs.Words.{starts, hosts, work_in, work_of, is_for_channel, has_live, is_one, leaving, ends_by, ends_channel, closed_at, is_closed}
 use Rattle.wx_machine.specs.declared.entries.Who.TheVariants.{Context as ByContext, Host as ByHost}
 use Rattle.wx_machine.specs.declared.entries.Call.TheVariants.{Leave, Disconnect, ConnectNative, SendNative, HostEnded}
 use Rattle.wx_machine.specs.declared.entries.Answer.TheVariants.{Channel as OnChannel, Request as OnRequest}

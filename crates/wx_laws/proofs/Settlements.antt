@@ -13,10 +13,15 @@ use Rattle.wx_id.specs.declared.events.EventKind.{EventKind}
 use Rattle.wx_id.specs.declared.events.EventKind.TheVariants.{Connected, Asked, Replied, Closed}
 use Rattle.wx_context.specs.declared.contexts.Target.{Target}
 use Rattle.wx_external.specs.World.{WorldLists}
-use Rattle.wx_machine.specs.Words.{is_by, context_of, is_live, listens_of, numbers, reaches_from, is_receiver, receivers_of, opens, channels, end_in, Parties}
-use Rattle.wx_machine.specs.Words.{asked_by, asks, requests, request, is_asker, is_asked, work_of, is_for_request, has_declined, has_open, settles_by, ends_request}
-use Rattle.wx_machine.specs.Words.{settled_at, is_settled, is_receiving, on, connected, message, disconnected, asked, answered, replied, unanswered, tells}
-use Rattle.wx_machine.specs.Words.{marked, delivered, queued, on_request, said_for, answer_after, Who, Call, Answer, Entry, Work}
+use Rattle.wx_machine.specs.declared.entries.Who.{Who}
+use Rattle.wx_machine.specs.declared.entries.Call.{Call}
+use Rattle.wx_machine.specs.declared.entries.Answer.{Answer}
+use Rattle.wx_machine.specs.declared.entries.Entry.{Entry}
+use Rattle.wx_machine.specs.declared.work.Work.{Work}
+use Rattle.wx_machine.specs.Words.{is_by, context_of, is_live, listens_of, numbers, reaches_from, is_receiver, receivers_of, opens, channels, end_in}
+use Rattle.wx_machine.specs.Words.{Parties, asked_by, asks, requests, request, is_asker, is_asked, work_of, is_for_request, has_declined, has_open}
+use Rattle.wx_machine.specs.Words.{settles_by, ends_request, settled_at, is_settled, is_receiving, on, connected, message, disconnected, asked, answered}
+use Rattle.wx_machine.specs.Words.{replied, unanswered, tells, marked, delivered, queued, on_request, said_for, answer_after}
 use Rattle.wx_machine.specs.declared.entries.TheConstants.{LONGEST}
 use Rattle.wx_machine.specs.declared.entries.Who.TheVariants.{Context as ByContext, Host as ByHost}
 use Rattle.wx_machine.specs.declared.entries.Call.TheVariants.{Leave, Send, Reply, Decline, SendNative, HostSaid, HostEnded}

@@ -6,9 +6,14 @@ use Rattle.wx_id.specs.declared.numbers.ContextNo.{ContextNo}
 use Rattle.wx_id.specs.declared.events.Event.{Event}
 use Rattle.wx_id.specs.declared.events.EventKind.{EventKind}
 use Rattle.wx_id.specs.declared.events.EventKind.TheVariants.{Connected, Message, Disconnected, Asked, Replied, Closed}
-use Rattle.wx_machine.specs.Words.{is_by, opens, channels, channel, end_in, asks, requests, request, is_asker, is_asked, closes, settles, is_receiving, on, connected}
-use Rattle.wx_machine.specs.Words.{goes_to, work_by, said, message, disconnected_on, host_disconnected, disconnected, asked, answered, replied, unanswered_on, host_unanswered}
-use Rattle.wx_machine.specs.Words.{unanswered, tells, marked, queued, same_kind, same_event, is_waiting, pending, Who, Call, Answer, Entry, Work}
+use Rattle.wx_machine.specs.declared.entries.Who.{Who}
+use Rattle.wx_machine.specs.declared.entries.Call.{Call}
+use Rattle.wx_machine.specs.declared.entries.Answer.{Answer}
+use Rattle.wx_machine.specs.declared.entries.Entry.{Entry}
+use Rattle.wx_machine.specs.declared.work.Work.{Work}
+use Rattle.wx_machine.specs.Words.{is_by, opens, channels, channel, end_in, asks, requests, request, is_asker, is_asked, closes, settles, is_receiving, on}
+use Rattle.wx_machine.specs.Words.{connected, goes_to, work_by, said, message, disconnected_on, host_disconnected, disconnected, asked, answered, replied}
+use Rattle.wx_machine.specs.Words.{unanswered_on, host_unanswered, unanswered, tells, marked, queued, same_kind, same_event, is_waiting, pending}
 use Rattle.wx_machine.specs.declared.entries.Who.TheVariants.{Context as ByContext}
 use Rattle.wx_machine.specs.declared.entries.Call.TheVariants.{Leave, Post, Disconnect, Reply, Decline, Take, HostSaid, HostEnded}
 use Rattle.wx_machine.specs.declared.entries.Answer.TheVariants.{Posted, First, Passed, Event as Told}

@@ -9,8 +9,12 @@ use Rattle.wx_id.specs.declared.numbers.ContextNo.{ContextNo}
 use Rattle.wx_id.specs.declared.events.Event.{Event}
 use Rattle.wx_id.specs.declared.events.EventKind.{EventKind}
 use Rattle.wx_external.specs.World.{WorldLists}
-use Rattle.wx_machine.specs.Words.{first, is_by, is_live, tells, marked, delivered, queued, event_in, taken, same_event, drops_by}
-use Rattle.wx_machine.specs.Words.{is_dropped, is_waiting, pending, told_or_empty, answer_after, Who, Call, Answer, Entry}
+use Rattle.wx_machine.specs.declared.entries.Who.{Who}
+use Rattle.wx_machine.specs.declared.entries.Call.{Call}
+use Rattle.wx_machine.specs.declared.entries.Answer.{Answer}
+use Rattle.wx_machine.specs.declared.entries.Entry.{Entry}
+use Rattle.wx_machine.specs.Words.{first, is_by, is_live, tells, marked, delivered, queued, event_in, taken, same_event}
+use Rattle.wx_machine.specs.Words.{drops_by, is_dropped, is_waiting, pending, told_or_empty, answer_after}
 use Rattle.wx_machine.specs.declared.entries.Who.TheVariants.{Context as ByContext, Host as ByHost}
 use Rattle.wx_machine.specs.declared.entries.Call.TheVariants.{Take}
 use Rattle.wx_machine.specs.declared.entries.Answer.TheVariants.{Gone, Event as Told}

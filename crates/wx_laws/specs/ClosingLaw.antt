@@ -8,8 +8,10 @@ use Rattle.wx_id.specs.declared.events.End.{End}
 use Rattle.wx_id.specs.declared.events.End.TheVariants.{Opener, Receiver}
 use Rattle.wx_id.specs.declared.events.EventKind.TheVariants.{Disconnected}
 use Rattle.wx_external.specs.World.{WorldLists}
-use Rattle.wx_machine.specs.Words.{is_by, is_live, channel, end_in, is_closed, closes, on, side_of, tells, queued}
-use Rattle.wx_machine.specs.Words.{event_in, taken, same_event, is_of, pending, Call, Answer, Entry}
+use Rattle.wx_machine.specs.declared.entries.Call.{Call}
+use Rattle.wx_machine.specs.declared.entries.Answer.{Answer}
+use Rattle.wx_machine.specs.declared.entries.Entry.{Entry}
+use Rattle.wx_machine.specs.Words.{is_by, is_live, channel, end_in, is_closed, closes, on, side_of, tells, queued, event_in, taken, same_event, is_of, pending}
 use Rattle.wx_machine.specs.declared.entries.Call.TheVariants.{Disconnect}
 use Rattle.wx_machine.specs.declared.entries.Answer.TheVariants.{Done}
 use Rattle.wx_laws.specs.Legal.{IsLegalPast}

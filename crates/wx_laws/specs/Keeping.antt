@@ -6,8 +6,10 @@ use Rattle.wx_id.specs.declared.events.EventKind.{EventKind}
 use Rattle.wx_id.specs.declared.events.EventKind.TheVariants.{Disconnected, Replied, Closed}
 use Rattle.wx_context.specs.declared.contexts.Target.{Target}
 use Rattle.wx_external.specs.World.{WorldLists}
-use Rattle.wx_machine.specs.Words.{context_of, is_by, is_live, receivers_of, channel, end_in, request, is_asker, work_of, texts_taken, closed_at, settled_at}
-use Rattle.wx_machine.specs.Words.{on, side_of, tells, event_in, taken, is_of, pending, IsLegal, gate_for, native_gate_for, Answer, Entry}
+use Rattle.wx_machine.specs.declared.entries.Answer.{Answer}
+use Rattle.wx_machine.specs.declared.entries.Entry.{Entry}
+use Rattle.wx_machine.specs.Words.{context_of, is_by, is_live, receivers_of, channel, end_in, request, is_asker, work_of, texts_taken, closed_at}
+use Rattle.wx_machine.specs.Words.{settled_at, on, side_of, tells, event_in, taken, is_of, pending, IsLegal, gate_for, native_gate_for}
 use Rattle.wx_machine.specs.declared.entries.Who.TheVariants.{Context as ByContext}
 use Rattle.wx_machine.specs.declared.entries.Call.TheVariants.{Connect, ConnectNative}
 use Rattle.wx_machine.specs.declared.sorts.Sort.TheVariants.{Connection}

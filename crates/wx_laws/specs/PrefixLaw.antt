@@ -9,7 +9,12 @@ use Rattle.wx_id.specs.declared.events.End.{End}
 use Rattle.wx_id.specs.declared.events.End.TheVariants.{Opener}
 use Rattle.wx_id.specs.declared.events.EventKind.TheVariants.{Message}
 use Rattle.wx_external.specs.World.{WorldLists}
-use Rattle.wx_machine.specs.Words.{text_in, text_of, channel, end_in, asks, work_of, is_for_channel, texts_taken, side_of, taken, Who, Call, Answer, Entry, Work}
+use Rattle.wx_machine.specs.declared.entries.Who.{Who}
+use Rattle.wx_machine.specs.declared.entries.Call.{Call}
+use Rattle.wx_machine.specs.declared.entries.Answer.{Answer}
+use Rattle.wx_machine.specs.declared.entries.Entry.{Entry}
+use Rattle.wx_machine.specs.declared.work.Work.{Work}
+use Rattle.wx_machine.specs.Words.{text_in, text_of, channel, end_in, asks, work_of, is_for_channel, texts_taken, side_of, taken}
 use Rattle.wx_machine.specs.declared.entries.Who.TheVariants.{Context as ByContext, Host as ByHost}
 use Rattle.wx_machine.specs.declared.entries.Call.TheVariants.{Post, HostSaid}
 use Rattle.wx_machine.specs.declared.entries.Answer.TheVariants.{Posted, Passed}

@@ -5,7 +5,9 @@ use Rattle.wx_context.specs.declared.contexts.Target.{Target}
 use Rattle.wx_external.specs.World.{WorldLists}
 use Rattle.wx_external.specs.declared.gates.Verdict.{Verdict}
 use Rattle.wx_external.specs.declared.native.NativeVerdict.{NativeVerdict}
-use Rattle.wx_machine.specs.Words.{context_of, is_live, receivers_of, gate_for, native_gate_for, Answer, Entry}
+use Rattle.wx_machine.specs.declared.entries.Answer.{Answer}
+use Rattle.wx_machine.specs.declared.entries.Entry.{Entry}
+use Rattle.wx_machine.specs.Words.{context_of, is_live, receivers_of, gate_for, native_gate_for}
 use Rattle.wx_machine.specs.declared.entries.Who.TheVariants.{Context as ByContext}
 use Rattle.wx_machine.specs.declared.entries.Call.TheVariants.{Connect, ConnectNative}
 use Rattle.wx_machine.specs.declared.entries.Answer.TheVariants.{Channel as OnChannel}

@@ -5,8 +5,11 @@ use Rattle.wx_id.specs.declared.events.Event.{Event}
 use Rattle.wx_id.specs.declared.events.EventKind.{EventKind}
 use Rattle.wx_id.specs.declared.events.EventKind.TheVariants.{Replied, Closed}
 use Rattle.wx_external.specs.World.{WorldLists}
-use Rattle.wx_machine.specs.Words.{is_live, Parties, request, is_asker, is_asked, work_of, is_for_request, has_open}
-use Rattle.wx_machine.specs.Words.{settled_at, is_settled, on, tells, queued, Who, Call, Answer, Entry}
+use Rattle.wx_machine.specs.declared.entries.Who.{Who}
+use Rattle.wx_machine.specs.declared.entries.Call.{Call}
+use Rattle.wx_machine.specs.declared.entries.Answer.{Answer}
+use Rattle.wx_machine.specs.declared.entries.Entry.{Entry}
+use Rattle.wx_machine.specs.Words.{is_live, Parties, request, is_asker, is_asked, work_of, is_for_request, has_open, settled_at, is_settled, on, tells, queued}
 use Rattle.wx_machine.specs.declared.entries.Who.TheVariants.{Context as ByContext, Host as ByHost}
 use Rattle.wx_machine.specs.declared.entries.Call.TheVariants.{Leave, Reply, Decline, HostSaid, HostEnded}
 use Rattle.wx_machine.specs.declared.entries.Answer.TheVariants.{First, Passed}

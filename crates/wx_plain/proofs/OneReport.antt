@@ -1,7 +1,7 @@
 -- Bytes have at most one report: they are the text of one journal, or have one fault.
 use Rattle.std.proofs.Common.{◌≡◌, ◌∙◌, ◌<◌, ◌≤◌, ◌+◌, ◌^◌, ℕ, List, [], ◌++◌, length, Result, Ok, Err, sym, ap, arith, append-nil, append_assoc, length-append, lit<}
 use Rattle.std.specs.Prelude.{flat_map, reverse, true}
-use Rattle.wx_machine.specs.Words.{Entry}
+use Rattle.wx_machine.specs.declared.entries.Entry.{Entry}
 use Rattle.wx_outside.specs.Shelf.{limit}
 use Rattle.wx_journal_text.specs.Text.{entry_text, journal_text}
 use Rattle.wx_journal_read.specs.declared.fault.JournalFault.{JournalFault}

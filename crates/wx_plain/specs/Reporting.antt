@@ -2,7 +2,8 @@
 -- request.
 use Rattle.std.specs.Prelude.{◌≡◌, ℕ, zero, suc, List, [], ◌++◌, length, reverse, Option, Some, None, true, decimal, codes}
 use Rattle.wx_id.specs.declared.numbers.EntryNo.{EntryNo}
-use Rattle.wx_machine.specs.Words.{Entry, channels, requests}
+use Rattle.wx_machine.specs.declared.entries.Entry.{Entry}
+use Rattle.wx_machine.specs.Words.{channels, requests}
 use Rattle.wx_reports.specs.declared.ports.PortReport.{PortReport}
 use Rattle.wx_reports.specs.declared.requests.RequestReport.{RequestReport}
 use Rattle.wx_reports.specs.declared.requests.Settled.{Settled}

@@ -13,8 +13,13 @@ use Rattle.wx_id.specs.declared.events.Event.{Event}
 use Rattle.wx_id.specs.declared.events.End.{End}
 use Rattle.wx_id.specs.declared.events.End.TheVariants.{Opener, Receiver, Neither}
 use Rattle.wx_external.specs.World.{WorldLists}
-use Rattle.wx_machine.specs.Words.{contexts, is_live, is_by, channel, end_in, Start, starts, hosts, work_in, work_of, is_for_channel, is_by_host, is_closed}
-use Rattle.wx_machine.specs.Words.{taken, event_in, texts_taken, text_taken, at_end, where_short, answer_after, may_make, Who, Call, Answer, Entry, Work}
+use Rattle.wx_machine.specs.declared.entries.Who.{Who}
+use Rattle.wx_machine.specs.declared.entries.Call.{Call}
+use Rattle.wx_machine.specs.declared.entries.Answer.{Answer}
+use Rattle.wx_machine.specs.declared.entries.Entry.{Entry}
+use Rattle.wx_machine.specs.declared.work.Work.{Work}
+use Rattle.wx_machine.specs.Words.{contexts, is_live, is_by, channel, end_in, Start, starts, hosts, work_in, work_of, is_for_channel, is_by_host}
+use Rattle.wx_machine.specs.Words.{is_closed, taken, event_in, texts_taken, text_taken, at_end, where_short, answer_after, may_make}
 use Rattle.wx_machine.specs.declared.entries.Who.TheVariants.{Context as ByContext, Host as ByHost}
 use Rattle.wx_machine.specs.declared.entries.Call.TheVariants.{Post, Take, HostTake, HostSaid}
 use Rattle.wx_machine.specs.declared.entries.Answer.TheVariants.{Posted, Passed, Gone, PortClosed, Event as Told, Text as HasText}

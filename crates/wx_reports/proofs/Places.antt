@@ -7,7 +7,8 @@ use Rattle.std.proofs.lemmas.Option.{same_Some, none-some}
 use Rattle.std.proofs.lemmas.Bool.{and_parts}
 use Rattle.wx_laws.proofs.Numbers.{eqb_refl, eqb_above}
 use Rattle.wx_id.specs.declared.numbers.EntryNo.{EntryNo}
-use Rattle.wx_machine.specs.Words.{Entry, request, ends_channel, closed_at, is_closed, closes, ends_request, is_settled, settles}
+use Rattle.wx_machine.specs.declared.entries.Entry.{Entry}
+use Rattle.wx_machine.specs.Words.{request, ends_channel, closed_at, is_closed, closes, ends_request, is_settled, settles}
 use Rattle.wx_reports.specs.declared.requests.Settled.{Settled}
 use Rattle.wx_id.specs.Numbers.{entry_no}
 use Rattle.wx_reports.specs.Reports.{opens_channel, opened_at, makes_request, asked_at, way, settlement}

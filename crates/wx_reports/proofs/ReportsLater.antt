@@ -3,7 +3,8 @@ use Rattle.std.proofs.Common.{◌≡◌, ℕ, List, [], ◌∷◌, length, refl,
 use Rattle.std.specs.Prelude.{Option, Some, None, ◌&&◌, is_some, ◌==◌}
 use Rattle.std.specs.Option.{option_or, option_map}
 use Rattle.wx_id.specs.declared.numbers.EntryNo.{EntryNo}
-use Rattle.wx_machine.specs.Words.{Entry, opens, channels, channel, asks, requests, request, ends_request, settled_at}
+use Rattle.wx_machine.specs.declared.entries.Entry.{Entry}
+use Rattle.wx_machine.specs.Words.{opens, channels, channel, asks, requests, request, ends_request, settled_at}
 use Rattle.wx_walks.proofs.EndsLater.{place_more}
 use Rattle.wx_reports.specs.declared.requests.Settled.{Settled}
 use Rattle.wx_id.specs.Numbers.{entry_no}

@@ -1,7 +1,8 @@
 -- What a report counts, by the laws of messaging.
 use Rattle.std.specs.Prelude.{ℕ, suc, zero, ◌+◌, length, List, cond}
 use Rattle.wx_id.specs.declared.events.End.TheVariants.{Opener, Receiver}
-use Rattle.wx_machine.specs.Words.{contexts, hosts, work_of, is_for_channel, texts_taken, taken, Entry}
+use Rattle.wx_machine.specs.declared.entries.Entry.{Entry}
+use Rattle.wx_machine.specs.Words.{contexts, hosts, work_of, is_for_channel, texts_taken, taken}
 use Rattle.wx_laws.specs.PrefixLaw.{messages, given}
 
 -- how many messages of channel k were given to its opener, and how many to its receivers

@@ -3,8 +3,11 @@ use Rattle.std.specs.Prelude.{ℕ, ◌+◌, length, List, [], ◌∷◌, Bool, t
 use Rattle.std.specs.Option.{option_or, option_map}
 use Rattle.wx_id.specs.Numbers.{entry_no}
 use Rattle.wx_id.specs.declared.numbers.EntryNo.{EntryNo}
-use Rattle.wx_machine.specs.Words.{Who, Call, Answer, Entry, opens, channels, Parties, asks, requests, request}
-use Rattle.wx_machine.specs.Words.{is_asker, work_of, is_for_channel, closed_at, ends_request}
+use Rattle.wx_machine.specs.declared.entries.Who.{Who}
+use Rattle.wx_machine.specs.declared.entries.Call.{Call}
+use Rattle.wx_machine.specs.declared.entries.Answer.{Answer}
+use Rattle.wx_machine.specs.declared.entries.Entry.{Entry}
+use Rattle.wx_machine.specs.Words.{opens, channels, Parties, asks, requests, request, is_asker, work_of, is_for_channel, closed_at, ends_request}
 use Rattle.wx_machine.specs.declared.entries.Who.TheVariants.{Context as ByContext, Host as ByHost}
 use Rattle.wx_machine.specs.declared.entries.Call.TheVariants.{Leave, Post, Reply, Take, HostTake, HostSaid}
 use Rattle.wx_machine.specs.declared.entries.Answer.TheVariants.{Event as Told, Posted, Text as HasText, Passed}

@@ -2,7 +2,10 @@
 use Rattle.std.specs.Prelude.{◌≡◌, ℕ, List, [], ◌∷◌, ◌++◌, Option, Some, None, codes}
 use Rattle.std.specs.Option.{option_map}
 use Rattle.wx_external.specs.World.{WorldLists}
-use Rattle.wx_machine.specs.Words.{Who, Call, Entry, made_of}
+use Rattle.wx_machine.specs.declared.entries.Who.{Who}
+use Rattle.wx_machine.specs.declared.entries.Call.{Call}
+use Rattle.wx_machine.specs.declared.entries.Entry.{Entry}
+use Rattle.wx_machine.specs.Words.{made_of}
 use Rattle.wx_machine.specs.declared.entries.Call.TheVariants.{Leave, Disconnect, Take, ConnectNative, SendNative, HostTake, HostSaid, HostEnded}
 use Rattle.wx_machine.specs.declared.entries.Reason.TheVariants.{StartFailed}
 use Rattle.wx_machine.specs.Rows.{by, by_host, a_page, listen_connect, connect, channel, post, decline, reply, two_asked, one_connection_calls, first_reply_calls, host_replies_calls, with_hosts}

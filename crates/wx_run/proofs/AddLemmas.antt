@@ -3,7 +3,8 @@ use Rattle.std.proofs.Common.{◌≡◌, ℕ, ◌+◌, ◌-◌, ◌*◌, ◌<◌
 use Rattle.std.specs.Prelude.{Some, None}
 use Rattle.std.proofs.lemmas.List.{length-append, take-append-le}
 use Rattle.wx_external.specs.World.{WorldLists}
-use Rattle.wx_machine.specs.Words.{Entry, hosts}
+use Rattle.wx_machine.specs.declared.entries.Entry.{Entry}
+use Rattle.wx_machine.specs.Words.{hosts}
 use Rattle.wx_host_launch.specs.Records.{StarterState, slot_like, with_place}
 use Rattle.wx_host_slot.specs.Slots.{SlotState, waiting_slot, turns_left, host_limit}
 use Rattle.wx_run.specs.Hosts.{host_numbered}

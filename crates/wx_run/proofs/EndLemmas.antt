@@ -3,7 +3,7 @@ use Rattle.std.proofs.Common.{◌≡◌, ℕ, zero, suc, ◌+◌, ◌<◌, lengt
 use Rattle.std.specs.declared.option.Option.{Option}
 use Rattle.std.specs.Prelude.{slice_get, not, ◌&&◌, nat_le}
 use Rattle.wx_id.specs.declared.numbers.ContextNo.{ContextNo}
-use Rattle.wx_machine.specs.Words.{Entry}
+use Rattle.wx_machine.specs.declared.entries.Entry.{Entry}
 use Rattle.wx_script.specs.declared.script.Command.{Command}
 use Rattle.wx_script.specs.Places.{is_left, place_of}
 use Rattle.wx_script.specs.Ends.{numbered, script_has_ended, IsDone, is_spent, spent_from, spent_of, entries_by, entry_limit}

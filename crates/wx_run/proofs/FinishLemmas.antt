@@ -4,7 +4,7 @@ use Rattle.std.specs.declared.option.Option.{Option}
 use Rattle.std.specs.Prelude.{min}
 use Rattle.std.proofs.Math.Nat.{min-eq_left, min-le_right}
 use Rattle.wx_external.specs.World.{WorldLists}
-use Rattle.wx_machine.specs.Words.{Entry}
+use Rattle.wx_machine.specs.declared.entries.Entry.{Entry}
 use Rattle.wx_host_launch.specs.Records.{HostRecord, Writing, StarterState, plus, faults_in, faults_of, taking_over}
 use Rattle.wx_host_slot.specs.Slots.{SlotState, closing_record, closing_starter}
 use Rattle.wx_run.specs.Hosts.{with_faults, with_records}

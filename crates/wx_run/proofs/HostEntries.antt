@@ -3,7 +3,10 @@ use Rattle.std.proofs.Common.{◌≡◌, ◌≢◌, ℕ, zero, suc, ◌+◌, ◌
 use Rattle.std.specs.Prelude.{option_to_list, not, ◌&&◌}
 use Rattle.std.proofs.lemmas.Bool.{ne_eqb, eq-eqb, or_right}
 use Rattle.wx_id.specs.declared.numbers.HostNo.{HostNo}
-use Rattle.wx_machine.specs.Words.{Who, Call, Entry, is_enter, hosts, started_by, is_by_host, has_ended}
+use Rattle.wx_machine.specs.declared.entries.Who.{Who}
+use Rattle.wx_machine.specs.declared.entries.Call.{Call}
+use Rattle.wx_machine.specs.declared.entries.Entry.{Entry}
+use Rattle.wx_machine.specs.Words.{is_enter, hosts, started_by, is_by_host, has_ended}
 use Rattle.wx_machine.specs.declared.entries.Who.TheVariants.{Host as ByHost}
 use Rattle.wx_machine.specs.declared.entries.Call.TheVariants.{HostEnded}
 use Rattle.wx_machine.specs.declared.entries.Reason.TheVariants.{WriteFailed}

@@ -7,7 +7,8 @@ use Rattle.wx_id.specs.declared.numbers.ContextNo.{ContextNo}
 use Rattle.wx_id.specs.declared.numbers.HostNo.{HostNo}
 use Rattle.wx_external.specs.World.{WorldLists}
 use Rattle.wx_machine.specs.declared.entries.Who.TheVariants.{Host as ByHost}
-use Rattle.wx_machine.specs.Words.{Entry, contexts, is_by, hosts, starts, FollowsMachine, EachAfter}
+use Rattle.wx_machine.specs.declared.entries.Entry.{Entry}
+use Rattle.wx_machine.specs.Words.{contexts, is_by, hosts, starts, FollowsMachine, EachAfter}
 use Rattle.wx_host_launch.specs.Records.{Writing}
 use Rattle.wx_host_slot.specs.Slots.{SlotState}
 use Rattle.wx_script.specs.declared.script.Command.{Command}

@@ -16,8 +16,9 @@ use Rattle.wx_context.specs.declared.contexts.Listens.{Listens}
 use Rattle.wx_machine.specs.declared.entries.Who.TheVariants.{Context as ByContext}
 use Rattle.wx_machine.specs.declared.entries.Call.TheVariants as call
 use Rattle.wx_machine.specs.declared.entries.Answer.TheVariants as answer
-use Rattle.wx_machine.specs.Words.{Entry, contexts, is_by, is_there, is_live, has_left, context_of, same_context}
-use Rattle.wx_machine.specs.Words.{is_leave, IsLegal, FollowsMachine, answer_after, EachAfter, hosts, is_by_host}
+use Rattle.wx_machine.specs.declared.entries.Entry.{Entry}
+use Rattle.wx_machine.specs.Words.{contexts, is_by, is_there, is_live, has_left, context_of, same_context, is_leave}
+use Rattle.wx_machine.specs.Words.{IsLegal, FollowsMachine, answer_after, EachAfter, hosts, is_by_host}
 use Rattle.wx_broker.specs.State.{BrokerState}
 use Rattle.wx_broker.specs.Steps.{Appends, Stays}
 use Rattle.wx_desk.specs.BrokerDesks.{has_lent}

@@ -7,7 +7,8 @@ use Rattle.std.proofs.Math.Seq.{take-length}
 use Rattle.wx_id.specs.declared.numbers.ContextNo.{ContextNo}
 use Rattle.wx_external.specs.World.{WorldLists}
 use Rattle.wx_machine.specs.declared.entries.Who.TheVariants.{Context as ByContext}
-use Rattle.wx_machine.specs.Words.{Entry, hosts}
+use Rattle.wx_machine.specs.declared.entries.Entry.{Entry}
+use Rattle.wx_machine.specs.Words.{hosts}
 use Rattle.wx_script.specs.declared.script.Command.{Command}
 use Rattle.wx_script.specs.Places.{next_of}
 use Rattle.wx_script.specs.Carries.{FollowsScript, AskedOf, MayCome}

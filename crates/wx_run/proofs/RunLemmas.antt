@@ -6,7 +6,8 @@ use Rattle.wx_id.specs.declared.texts.NoMemory.{NoMemory}
 use Rattle.std.proofs.lemmas.List.{length-map, reverse-append, reverse-reverse}
 use Rattle.wx_id.specs.declared.numbers.HostNo.{HostNo}
 use Rattle.wx_external.specs.World.{WorldLists}
-use Rattle.wx_machine.specs.Words.{Entry, hosts, FollowsMachine, EachAfter}
+use Rattle.wx_machine.specs.declared.entries.Entry.{Entry}
+use Rattle.wx_machine.specs.Words.{hosts, FollowsMachine, EachAfter}
 use Rattle.wx_host_launch.specs.Records.{Writing, StarterState}
 use Rattle.wx_host_slot.specs.Slots.{SlotState, SlotView, slot_of, slots_of, host_limit, closing_record}
 use Rattle.wx_host_slot.specs.Turns.{rested, SaysOrEnds}

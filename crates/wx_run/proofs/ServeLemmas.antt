@@ -8,7 +8,8 @@ use Rattle.std.proofs.lemmas.Option.{slice_get_within, slice_get_read}
 use Rattle.std.proofs.Math.Seq.{take-length}
 use Rattle.wx_id.specs.declared.numbers.HostNo.{HostNo}
 use Rattle.wx_external.specs.World.{WorldLists}
-use Rattle.wx_machine.specs.Words.{Entry, hosts, has_ended, is_host_ready}
+use Rattle.wx_machine.specs.declared.entries.Entry.{Entry}
+use Rattle.wx_machine.specs.Words.{hosts, has_ended, is_host_ready}
 use Rattle.wx_script.specs.declared.scene.SpentWho.TheVariants.{Host}
 use Rattle.wx_host_launch.specs.Records.{Writing, StarterState}
 use Rattle.wx_host_slot.specs.Slots.{SlotState, Stands, WasStarted, is_spent_at, turns_left, CameTo, host_limit}

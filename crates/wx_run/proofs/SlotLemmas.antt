@@ -9,7 +9,8 @@ use Rattle.wx_id.specs.declared.numbers.ContextNo.{ContextNo}
 use Rattle.wx_id.specs.declared.numbers.HostNo.{HostNo}
 use Rattle.wx_external.specs.World.{WorldLists}
 use Rattle.wx_machine.specs.declared.entries.Who.TheVariants.{Context as ByContext}
-use Rattle.wx_machine.specs.Words.{Entry, hosts, starts, is_by_host, has_ended}
+use Rattle.wx_machine.specs.declared.entries.Entry.{Entry}
+use Rattle.wx_machine.specs.Words.{hosts, starts, is_by_host, has_ended}
 use Rattle.wx_host_launch.specs.Records.{Writing, StarterState, slot_like}
 use Rattle.wx_host_slot.specs.Journals.{entries_of}
 use Rattle.wx_host_slot.specs.Slots.{SlotState, waiting, untold, running, at_end, Stands, waiting_slot, closing_record, is_spent_at, host_limit}

@@ -4,7 +4,10 @@ use Rattle.std.specs.Prelude.{nat_le, ◌&&◌, not}
 use Rattle.wx_id.specs.declared.numbers.ContextNo.{ContextNo}
 use Rattle.wx_external.specs.World.{WorldLists}
 use Rattle.wx_machine.specs.declared.entries.Who.TheVariants.{Context as ByContext}
-use Rattle.wx_machine.specs.Words.{Call, Answer, Entry, FollowsMachine, contexts, EachAfter, has_pending}
+use Rattle.wx_machine.specs.declared.entries.Call.{Call}
+use Rattle.wx_machine.specs.declared.entries.Answer.{Answer}
+use Rattle.wx_machine.specs.declared.entries.Entry.{Entry}
+use Rattle.wx_machine.specs.Words.{FollowsMachine, contexts, EachAfter, has_pending}
 use Rattle.wx_script.specs.Places.{Place, outside, within, left, is_left, waits, ends, next_at, next_of}
 use Rattle.wx_script.specs.Ends.{is_idle, entry_limit}
 use Rattle.wx_desk.specs.History.{entries_in, seen_by}

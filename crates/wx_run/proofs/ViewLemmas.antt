@@ -3,7 +3,8 @@ use Rattle.std.proofs.Common.{◌≡◌, ℕ, ◌-◌, ◌<◌, length, set, get
 use Rattle.std.specs.declared.option.Option.{Option}
 use Rattle.std.proofs.lemmas.List.{map-append, map-set, length-map, get_or-map}
 use Rattle.wx_external.specs.World.{WorldLists}
-use Rattle.wx_machine.specs.Words.{Entry, hosts}
+use Rattle.wx_machine.specs.declared.entries.Entry.{Entry}
+use Rattle.wx_machine.specs.Words.{hosts}
 use Rattle.wx_host_launch.specs.Records.{Writing, StarterState}
 use Rattle.wx_host_slot.specs.Slots.{SlotView, slot_of, slots_of}
 use Rattle.wx_run.specs.Slots.{HostsStand, AllWereStarted, first_spent_slot, first_unended_slot}

@@ -2,7 +2,8 @@
 use Rattle.std.specs.Prelude.{◌≡◌, ℕ, zero, suc, ◌+◌, ◌<◌, ◌≤◌, length, List, [], ◌∷◌, ◌++◌, Bool, true, false, ◌&&◌, not, nat_le, if◌then◌else◌, Option, Some, None}
 use Rattle.wx_id.specs.declared.numbers.HostNo.{HostNo}
 use Rattle.wx_external.specs.World.{WorldLists}
-use Rattle.wx_machine.specs.Words.{Entry, is_host_ready, hosts, has_ended}
+use Rattle.wx_machine.specs.declared.entries.Entry.{Entry}
+use Rattle.wx_machine.specs.Words.{is_host_ready, hosts, has_ended}
 use Rattle.wx_host_launch.specs.Records.{HostRecord, Writing, StarterState, plus, faults_in}
 use Rattle.wx_host_slot.specs.Journals.{entries_of}
 use Rattle.wx_host_slot.specs.Meets.{RecordMeets}

@@ -8,7 +8,7 @@ use Rattle.wx_context.specs.declared.contexts.Listens.{Listens}
 use Rattle.wx_machine.specs.declared.entries.Who.TheVariants.{Context as ByContext}
 use Rattle.wx_machine.specs.declared.entries.Call.TheVariants as call
 use Rattle.wx_machine.specs.declared.entries.Answer.TheVariants as answer
-use Rattle.wx_machine.specs.Words.{Entry}
+use Rattle.wx_machine.specs.declared.entries.Entry.{Entry}
 use Rattle.wx_script.specs.declared.script.Act.TheVariants as act
 use Rattle.wx_script.specs.declared.script.Command.{Command}
 use Rattle.wx_script.specs.declared.script.Command.TheVariants.{Plain}

@@ -1,7 +1,8 @@
 -- How far the rounds of a run have come. Every list of entries has the newest first.
 use Rattle.std.specs.Prelude.{◌≡◌, ℕ, ◌+◌, ◌-◌, ◌*◌, ◌<◌, ◌≤◌, ◌⊎◌, length, List, Option, None}
 use Rattle.wx_external.specs.World.{WorldLists}
-use Rattle.wx_machine.specs.Words.{Entry, hosts}
+use Rattle.wx_machine.specs.declared.entries.Entry.{Entry}
+use Rattle.wx_machine.specs.Words.{hosts}
 use Rattle.wx_host_launch.specs.Records.{Writing, StarterState}
 use Rattle.wx_host_slot.specs.Slots.{SlotState, host_limit}
 use Rattle.wx_script.specs.declared.script.Command.{Command}

@@ -1,7 +1,8 @@
 -- What the hosts' part of a round comes to. Every list of entries has the newest first.
 use Rattle.std.specs.Prelude.{◌≡◌, ℕ, ◌<◌, ◌≤◌, length, List, ◌∷◌, Some, None}
 use Rattle.wx_id.specs.declared.numbers.HostNo.{HostNo}
-use Rattle.wx_machine.specs.Words.{Entry, hosts}
+use Rattle.wx_machine.specs.declared.entries.Entry.{Entry}
+use Rattle.wx_machine.specs.Words.{hosts}
 use Rattle.wx_script.specs.declared.scene.SpentWho.TheVariants.{Endpoint, Host}
 use Rattle.wx_host_slot.specs.Slots.{SlotState}
 use Rattle.wx_host_slot.specs.Turns.{HostTurn, SaysOrEnds}

@@ -3,7 +3,8 @@ use Rattle.std.specs.Prelude.{◌≡◌, ◌<◌, Bool, true, false, List, ◌�
 use Rattle.wx_id.specs.declared.numbers.ContextNo.{ContextNo}
 use Rattle.wx_external.specs.World.{WorldLists}
 use Rattle.wx_machine.specs.declared.entries.Who.TheVariants.{Context as ByContext}
-use Rattle.wx_machine.specs.Words.{Entry, FollowsMachine, contexts, EachAfter}
+use Rattle.wx_machine.specs.declared.entries.Entry.{Entry}
+use Rattle.wx_machine.specs.Words.{FollowsMachine, contexts, EachAfter}
 use Rattle.wx_script.specs.Places.{next_of}
 use Rattle.wx_script.specs.Carries.{MayCome}
 use Rattle.wx_script.specs.Ends.{entries_by, entry_limit, is_idle}

@@ -2,7 +2,8 @@
 use Rattle.std.proofs.Common.{◌≡◌, ◌≢◌, Bool, true, false, refl, ap, ◌∙◌, eqb}
 use Rattle.std.proofs.lemmas.Bool.{eqb-true, eq-eqb}
 use Rattle.wx_id.specs.declared.numbers.ContextNo.{ContextNo}
-use Rattle.wx_machine.specs.Words.{Who, is_by}
+use Rattle.wx_machine.specs.declared.entries.Who.{Who}
+use Rattle.wx_machine.specs.Words.{is_by}
 use Rattle.wx_machine.specs.declared.entries.Who.TheVariants.{Context as ByContext}
 
 pub is_by-own : (who : Who) (c : ContextNo) → who ≡ ByContext c → is_by who c ≡ true

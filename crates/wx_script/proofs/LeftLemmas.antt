@@ -6,8 +6,12 @@ use Rattle.std.proofs.lemmas.Bool.{eqb-true, or_left, or_right}
 use Rattle.wx_id.specs.declared.numbers.ContextNo.{ContextNo}
 use Rattle.wx_id.specs.declared.events.Event.{Event}
 use Rattle.wx_external.specs.World.{WorldLists}
-use Rattle.wx_machine.specs.Words.{Who, Call, Answer, Entry, is_by, is_leave, is_enter, is_there, context_of, has_left, enters}
-use Rattle.wx_machine.specs.Words.{if_numbered, brought, text_of, FollowsMachine, may_make, answer_after, EachAfter}
+use Rattle.wx_machine.specs.declared.entries.Who.{Who}
+use Rattle.wx_machine.specs.declared.entries.Call.{Call}
+use Rattle.wx_machine.specs.declared.entries.Answer.{Answer}
+use Rattle.wx_machine.specs.declared.entries.Entry.{Entry}
+use Rattle.wx_machine.specs.Words.{is_by, is_leave, is_enter, is_there, context_of, has_left, enters, if_numbered}
+use Rattle.wx_machine.specs.Words.{brought, text_of, FollowsMachine, may_make, answer_after, EachAfter}
 use Rattle.wx_machine.specs.declared.entries.Who.TheVariants.{Context as ByContext, Host as ByHost}
 use Rattle.wx_machine.specs.declared.entries.Call.TheVariants as call
 use Rattle.wx_context.specs.declared.contexts.Context.{Context}

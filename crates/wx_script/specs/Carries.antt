@@ -1,7 +1,9 @@
 -- How a journal carries out the scripts of its endpoints.
 use Rattle.std.specs.Prelude.{◌≡◌, List, slice_get, Some, IsTrue, reverse}
 use Rattle.wx_id.specs.declared.numbers.ContextNo.{ContextNo}
-use Rattle.wx_machine.specs.Words.{Who, Entry, is_enter, has_pending, EachAfter}
+use Rattle.wx_machine.specs.declared.entries.Who.{Who}
+use Rattle.wx_machine.specs.declared.entries.Entry.{Entry}
+use Rattle.wx_machine.specs.Words.{is_enter, has_pending, EachAfter}
 use Rattle.wx_machine.specs.declared.entries.Who.TheVariants.{Context as ByContext, Host as ByHost}
 use Rattle.wx_machine.specs.declared.entries.Call.TheVariants.{Take}
 use Rattle.wx_script.specs.declared.script.Command.{Command}

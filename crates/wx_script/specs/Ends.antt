@@ -1,7 +1,8 @@
 -- How the scripts of a run end: done, stalled or spent. Every list of entries has the newest first.
 use Rattle.std.specs.Prelude.{◌≡◌, ℕ, ◌+◌, Bool, true, false, ◌&&◌, not, List, [], ◌∷◌, slice_get, Option, Some, None, nat_le, cond, if◌then◌else◌}
 use Rattle.wx_id.specs.declared.numbers.ContextNo.{ContextNo}
-use Rattle.wx_machine.specs.Words.{Entry, is_by, has_pending}
+use Rattle.wx_machine.specs.declared.entries.Entry.{Entry}
+use Rattle.wx_machine.specs.Words.{is_by, has_pending}
 use Rattle.wx_script.specs.declared.script.Command.{Command}
 use Rattle.wx_script.specs.Places.{Next, enters, asks, waits, ends, next_of}
 

@@ -2,7 +2,8 @@
 use Rattle.std.specs.Prelude.{◌≡◌, List, slice_get, Some}
 use Rattle.wx_id.specs.declared.numbers.ContextNo.{ContextNo}
 use Rattle.wx_external.specs.World.{WorldLists}
-use Rattle.wx_machine.specs.Words.{Entry, has_left, FollowsMachine, EachAfter}
+use Rattle.wx_machine.specs.declared.entries.Entry.{Entry}
+use Rattle.wx_machine.specs.Words.{has_left, FollowsMachine, EachAfter}
 use Rattle.wx_script.specs.declared.script.Command.{Command}
 use Rattle.wx_script.specs.Carries.{FollowsScript}
 use Rattle.wx_script.specs.Ends.{script_has_ended}

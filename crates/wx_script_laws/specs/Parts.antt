@@ -3,7 +3,9 @@ use Rattle.std.specs.Prelude.{◌≡◌, ℕ, ◌+◌, ◌<◌, ◌≤◌, List,
 use Rattle.wx_id.specs.declared.numbers.ContextNo.{ContextNo}
 use Rattle.wx_id.specs.declared.numbers.ChannelNo.{ChannelNo}
 use Rattle.wx_id.specs.declared.numbers.RequestNo.{RequestNo}
-use Rattle.wx_machine.specs.Words.{Call, Entry, is_by, is_enter}
+use Rattle.wx_machine.specs.declared.entries.Call.{Call}
+use Rattle.wx_machine.specs.declared.entries.Entry.{Entry}
+use Rattle.wx_machine.specs.Words.{is_by, is_enter}
 use Rattle.wx_machine.specs.declared.entries.Call.TheVariants as call
 use Rattle.wx_script.specs.declared.script.Act.{Act}
 use Rattle.wx_script.specs.declared.script.Act.TheVariants as act

@@ -10,7 +10,9 @@ use Rattle.wx_id.specs.Contexts.{is_among, same_context}
 use Rattle.wx_id.specs.declared.numbers.ContextNo.{ContextNo}
 use Rattle.wx_context.specs.declared.contexts.Context.{Context}
 use Rattle.wx_context.specs.declared.contexts.Target.{Target}
-use Rattle.wx_machine.specs.Words.{Sort, Entry, is_there, if_numbered, enters, context_of, numbers, numbers_of, has_left, reaches_from}
+use Rattle.wx_machine.specs.declared.sorts.Sort.{Sort}
+use Rattle.wx_machine.specs.declared.entries.Entry.{Entry}
+use Rattle.wx_machine.specs.Words.{is_there, if_numbered, enters, context_of, numbers, numbers_of, has_left, reaches_from}
 use Rattle.wx_machine.specs.Words.{listens_of, is_receiver, receivers_of, Ends, opens, channels, channel, end_in}
 use Rattle.wx_walks.proofs.Past.{came_more}
 

@@ -9,8 +9,9 @@ use Rattle.std.proofs.lemmas.List.Elements.{filter-append}
 use Rattle.wx_id.specs.declared.numbers.ContextNo.{ContextNo}
 use Rattle.wx_id.specs.declared.events.Event.{Event}
 use Rattle.wx_id.specs.declared.events.EventKind.{EventKind}
-use Rattle.wx_machine.specs.Words.{Entry, is_by, opens, channels, asks, requests, connected, message, disconnected, of_channels}
-use Rattle.wx_machine.specs.Words.{asked, replied, unanswered, of_requests, delivered, queued, taken, event_in, marked, first}
+use Rattle.wx_machine.specs.declared.entries.Entry.{Entry}
+use Rattle.wx_machine.specs.Words.{is_by, opens, channels, asks, requests, connected, message, disconnected, of_channels, asked}
+use Rattle.wx_machine.specs.Words.{replied, unanswered, of_requests, delivered, queued, taken, event_in, marked, first}
 use Rattle.wx_walks.proofs.ClosingLater.{any_append}
 
 -- what `was_taken` says of one more entry

@@ -2,7 +2,8 @@
 use Rattle.std.proofs.Common.{◌≡◌, ℕ, ◌+◌, List, ◌∷◌, length, cond}
 use Rattle.std.specs.Prelude.{◌&&◌, is_some, ◌==◌}
 use Rattle.wx_id.specs.declared.numbers.ContextNo.{ContextNo}
-use Rattle.wx_machine.specs.Words.{Entry, asks, requests, request, is_asker, is_asked, has_open}
+use Rattle.wx_machine.specs.declared.entries.Entry.{Entry}
+use Rattle.wx_machine.specs.Words.{asks, requests, request, is_asker, is_asked, has_open}
 use Rattle.wx_walks.proofs.EndsLater.{length_options, place_more}
 
 -- how many requests there are after one more entry

@@ -5,7 +5,8 @@ use Rattle.std.specs.Option.{option_or}
 use Rattle.std.specs.List.{list_any}
 use Rattle.wx_id.specs.declared.numbers.HostNo.{HostNo}
 use Rattle.wx_id.specs.declared.numbers.EntryNo.{EntryNo}
-use Rattle.wx_machine.specs.Words.{Entry, first, starts, hosts, work_in, work_of, is_by_host, is_text_for, texts_for, text_taken, texts_taken, has_taken}
+use Rattle.wx_machine.specs.declared.entries.Entry.{Entry}
+use Rattle.wx_machine.specs.Words.{first, starts, hosts, work_in, work_of, is_by_host, is_text_for, texts_for, text_taken, texts_taken, has_taken}
 use Rattle.wx_walks.proofs.EndsLater.{length_options, place_more}
 use Rattle.wx_walks.proofs.ClosingLater.{any_append}
 use Rattle.wx_walks.proofs.EventsLater.{first_filter}
