@@ -100,24 +100,45 @@ fn told(alloc: Global, sender: &Sender) -> Result<String, Fail> {
     Ok(told)
 }
 
+/// A context: a page, a content script in this frame with this URL, or a page of the web. A table of these has nothing
+/// to drop where a later row fails, as one of contexts would.
+#[derive(Clone, Copy)]
+enum Sort {
+    Page,
+    Content(u32, &'static str),
+    Web,
+}
+
+fn context_of(alloc: Global, sort: Sort) -> Option<Context> {
+    match sort {
+        Sort::Page => page(alloc),
+        Sort::Content(frame, url) => content(alloc, frame, url),
+        Sort::Web => web(alloc),
+    }
+}
+
+/// A context, and what its sender tells.
+const SENDERS: &[(Sort, &str)] = &[
+    (
+        Sort::Page,
+        "abcdefghijklmnopabcdefghijklmnop - - chrome-extension://abcdefghijklmnopabcdefghijklmnop/p",
+    ),
+    (
+        Sort::Content(0, "https://a.b/"),
+        "abcdefghijklmnopabcdefghijklmnop 7 0 https://a.b/",
+    ),
+    (
+        Sort::Content(3, "https://a.b/f"),
+        "abcdefghijklmnopabcdefghijklmnop 7 3 https://a.b/f",
+    ),
+    (Sort::Web, "- 7 0 https://a.b/"),
+];
+
 #[test]
 fn senders_of_contexts(rt: HostRuntime) -> Result<(), Fail> {
     let alloc = rt.alloc();
-    let page_told = "abcdefghijklmnopabcdefghijklmnop - - \
-        chrome-extension://abcdefghijklmnopabcdefghijklmnop/p";
-    for (context, expected) in [
-        (page(alloc), page_told),
-        (
-            content(alloc, 0, "https://a.b/"),
-            "abcdefghijklmnopabcdefghijklmnop 7 0 https://a.b/",
-        ),
-        (
-            content(alloc, 3, "https://a.b/f"),
-            "abcdefghijklmnopabcdefghijklmnop 7 3 https://a.b/f",
-        ),
-        (web(alloc), "- 7 0 https://a.b/"),
-    ] {
-        let context = context.ok_or("no context")?;
+    for &(sort, expected) in SENDERS {
+        let context = context_of(alloc, sort).ok_or("no context")?;
         match context.sender(alloc) {
             Ok(sender) => assert_eq!(rt; told(alloc, &sender)?.as_str(), expected),
             Err(NoMemory) => assert!(rt; false),

@@ -147,21 +147,19 @@ fn streams(rt: HostRuntime) {
     }
 }
 
+/// A piece, how much of it is used, the text that it ends, and how many bytes are wanted next.
+const PIECES: &[(&[u8], usize, Option<&[u8]>, u32)] = &[
+    (b"\x02\x00\x00\x00{}\x01\x00\x00\x001", 6, Some(b"{}"), 4),
+    (b"\x01\x00", 2, None, 2),
+    (b"\x00\x00", 2, None, 1),
+    (b"1", 1, Some(b"1"), 4),
+];
+
 #[test]
-fn bytes_after_a_frame_stay(rt: HostRuntime) -> Result<(), Fail> {
+fn bytes_after_a_frame_stay(rt: HostRuntime) {
     let mut reader = FrameReader::new(rt.alloc(), 1_048_576);
     crosses_threads::<FrameReader>();
-    for (piece, used, text, wanted) in [
-        (
-            b"\x02\x00\x00\x00{}\x01\x00\x00\x001" as &[u8],
-            6,
-            Some(b"{}" as &[u8]),
-            4,
-        ),
-        (b"\x01\x00", 2, None, 2),
-        (b"\x00\x00", 2, None, 1),
-        (b"1", 1, Some(b"1"), 4),
-    ] {
+    for &(piece, used, text, wanted) in PIECES {
         match reader.step(piece) {
             Ok(step) => {
                 assert!(rt; step.used == used);
@@ -175,8 +173,10 @@ fn bytes_after_a_frame_stay(rt: HostRuntime) -> Result<(), Fail> {
         }
         assert!(rt; reader.wanted() == wanted);
     }
-    Ok(())
 }
+
+/// Where the frame of the longest text is cut.
+const CUTS: &[usize] = &[0, 1, 3, 4, 5, 70_000, 1_048_579];
 
 #[test]
 fn longest_text(rt: HostRuntime) -> Result<(), Fail> {
@@ -198,21 +198,24 @@ fn longest_text(rt: HostRuntime) -> Result<(), Fail> {
         end: Ok(()),
         have: 0,
     };
-    for cut in [0, 1, 3, 4, 5, 70_000, 1_048_579] {
+    for &cut in CUTS {
         judge_cut(&rt, alloc, &stream, cut, &want);
     }
     judge_bytes(&rt, alloc, &stream, &want);
     Ok(())
 }
 
+/// What stands in the output after the frame of `{}`, and after one more.
+const FRAMES: &[&[u8]] = &[
+    b"\x02\x00\x00\x00{}",
+    b"\x02\x00\x00\x00{}\x02\x00\x00\x00{}",
+];
+
 #[test]
 fn frame_of_a_text(rt: HostRuntime) -> Result<(), Fail> {
     let alloc = rt.alloc();
     let mut out = Vec::new(alloc);
-    for want in [
-        b"\x02\x00\x00\x00{}" as &[u8],
-        b"\x02\x00\x00\x00{}\x02\x00\x00\x00{}",
-    ] {
+    for &want in FRAMES {
         match JsonText::new(Vec::from_slice(alloc, b"{}")?) {
             Ok(text) => assert!(rt; frame_into(&text, &mut out).is_ok()),
             Err(_) => assert!(rt; false),

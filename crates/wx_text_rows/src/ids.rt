@@ -6,23 +6,23 @@ use wx_id::{
     HostNameFault, HostNo, NoMemory, RequestNo, TabId, Utf8Text,
 };
 
+/// Bytes, and where they go wrong as an extension's id.
+const IDS: &[(&[u8], Option<u64>)] = &[
+    (b"aaaaaaaaaaaaaaaaaaaaaaaaaaaaaaa", Some(31)),
+    (b"aaaaaaaaaaaaaaaaaaaaaaaaaaaaaaaaa", Some(32)),
+    (b"qaaaaaaaaaaaaaaaaaaaaaaaaaaaaaaa", Some(0)),
+    (b"abcdefghijklmnopabcdefghijklmno@", Some(31)),
+    (b"", Some(0)),
+    (b"abcdefghijklmnopabcdefghijklmnop", None),
+];
+
 #[test]
 fn extension_ids(rt: HostRuntime) {
-    let letters = [b'a'; 33];
-    assert_eq!(rt; ExtensionId::read(&letters[..31]), Err(BadId { place: 31 }));
-    assert_eq!(rt; ExtensionId::read(&letters), Err(BadId { place: 32 }));
-    assert_eq!(rt;
-        ExtensionId::read(b"qaaaaaaaaaaaaaaaaaaaaaaaaaaaaaaa"),
-        Err(BadId { place: 0 })
-    );
-    assert_eq!(rt;
-        ExtensionId::read(b"abcdefghijklmnopabcdefghijklmno@"),
-        Err(BadId { place: 31 })
-    );
-    assert_eq!(rt; ExtensionId::read(b""), Err(BadId { place: 0 }));
-    match ExtensionId::read(b"abcdefghijklmnopabcdefghijklmnop") {
-        Ok(id) => assert_eq!(rt; id.text(), "abcdefghijklmnopabcdefghijklmnop"),
-        Err(_) => assert!(rt; false),
+    for &(bytes, place) in IDS {
+        match ExtensionId::read(bytes) {
+            Ok(id) => assert!(rt; place.is_none() && id.text().as_bytes() == bytes),
+            Err(fault) => assert_eq!(rt; Some(fault.place), place),
+        }
     }
 }
 
@@ -84,17 +84,30 @@ fn places_of_host_names(rt: HostRuntime) {
     }
 }
 
+/// How many letters stand first, how many dots behind them, how many letters behind those, and where these bytes go
+/// wrong as a host name.
+const LONG_NAMES: &[(usize, usize, usize, Option<u64>)] = &[
+    (250, 0, 0, None),
+    (251, 0, 0, Some(250)),
+    (249, 1, 0, Some(249)),
+    (249, 1, 1, Some(249)),
+    (249, 0, 0, None),
+    (248, 1, 0, Some(249)),
+];
+
 #[test]
-fn the_last_place_of_a_host_name(rt: HostRuntime) {
-    let mut bytes = [b'a'; 251];
-    assert_eq!(rt; HostName::fault(&bytes[..250]), None);
-    assert_eq!(rt; HostName::fault(&bytes), Some(250));
-    bytes[249] = b'.';
-    assert_eq!(rt; HostName::fault(&bytes[..250]), Some(249));
-    assert_eq!(rt; HostName::fault(&bytes), Some(249));
-    assert_eq!(rt; HostName::fault(&bytes[..249]), None);
-    bytes[248] = b'.';
-    assert_eq!(rt; HostName::fault(&bytes[..249]), Some(249));
+fn the_last_place_of_a_host_name(rt: HostRuntime) -> Result<(), Fail> {
+    for &(first, dots, last, place) in LONG_NAMES {
+        let mut bytes = vec![in rt.alloc(); b'a'; first]?;
+        for _ in 0..dots {
+            bytes.push(b'.')?;
+        }
+        for _ in 0..last {
+            bytes.push(b'a')?;
+        }
+        assert_eq!(rt; HostName::fault(&bytes), place);
+    }
+    Ok(())
 }
 
 #[test]
