@@ -321,7 +321,7 @@ unfolding place_of
 shape_of scripts script c [] is carries = refl
 shape_of scripts script c (e ∷ past) is (before, follows) =
     elim (is_by e.who c) as (λ b. is_by e.who c ≡ b → Shape script (if b then place_behind script (place_of script c past) e.answer else place_of script c past) (cond b (e.call ∷ []) [] ++ calls_by c past)) [
-      | true ↦ λ own. step script past c (place_of script c past) e (calls_by c past) (shape_of scripts script c past is before) (asked_of scripts past script c e e.who follows own is).2
+      | true ↦ λ own. step script past c (place_of script c past) e (calls_by c past) (shape_of scripts script c past is before) (asked_of scripts past script c e e.who follows own is).1
       | false ↦ λ other. shape_of scripts script c past is before
     ] refl
 
