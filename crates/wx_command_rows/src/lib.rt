@@ -10,8 +10,6 @@ mod helpers;
 #[cfg(test)]
 mod lines;
 #[cfg(test)]
-mod spent;
-#[cfg(test)]
 mod words;
 #[cfg(test)]
 mod world;
