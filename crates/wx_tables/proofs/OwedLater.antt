@@ -1,0 +1,154 @@
+-- The places that are kept, when a channel or a request changes.
+use Rattle.std.proofs.Common.{◌≡◌, ℕ, suc, zero, ◌+◌, ◌<◌, ◌≤◌, List, [], ◌∷◌, length, set, get_or, refl, ap, sym, ◌∙◌, Bool, true, false, cond, arith, append-nil}
+use Rattle.std.specs.Prelude.{Option, Some, None, IfSome, slice_get, filter, ◌||◌}
+use Rattle.std.specs.Option.{option_map, IsSomeAnd}
+use Rattle.std.specs.List.{sum_by}
+use Rattle.std.proofs.lemmas.List.Sums.{sum_by-set}
+use Rattle.std.proofs.lemmas.Option.{none-some, slice_get-map, slice_get_within, slice_get_read, get_or_from_slice_get}
+use Rattle.std.proofs.lemmas.Bool.{false≢true, eqb-true}
+use Rattle.wx_id.proofs.ByContextLemmas.{other_is}
+use Rattle.wx_id.proofs.ListLemmas.{set_here, set_there}
+use Rattle.wx_id.specs.declared.numbers.ContextNo.{ContextNo}
+use Rattle.wx_id.specs.declared.events.Event.{Event}
+use Rattle.wx_port.specs.Port.{Port, is_open_port, is_live_end, closed}
+use Rattle.wx_id.specs.Contexts.{same_context, is_among}
+use Rattle.wx_one_shot.specs.Requests.{Request}
+use Rattle.wx_mailbox.specs.Mailbox.{MailboxState, is_apart}
+use Rattle.wx_tables.specs.State.{owes, awaits, due, owed_in, AreOwed, queue_in, queues_in}
+use Rattle.wx_tables.specs.Ending.{other_side, ended, Ended, EndsOwed, heard, told_end, dropped, parted, EachQueue}
+
+plus_none : (n : ℕ) → n + 0 ≡ n
+plus_none n = omega arith
+
+-- one channel is changed
+pub owes_set : (ports : List Port) (k : ℕ) (port new : Port) (d : ContextNo) → slice_get ports k ≡ Some port → sum_by (owes d) (set ports k new) + owes d port ≡ sum_by (owes d) ports + owes d new
+owes_set ports k port new d h =
+    ap (λ p. sum_by (owes d) (set ports k new) + owes d p) (sym (get_or_from_slice_get ports k port port h))
+    ∙ sum_by-set (owes d) ports k new port (slice_get_within ports k port h)
+
+-- what one channel owes is owed
+pub owes_within : (ports : List Port) (k : ℕ) (port : Port) (d : ContextNo) → slice_get ports k ≡ Some port → owes d port ≤ sum_by (owes d) ports
+owes_within ports k port d h =
+    let sums : sum_by (owes d) (set ports k (closed port)) + owes d port ≡ sum_by (owes d) ports + 0 = owes_set ports k port (closed port) d h in
+    omega (arith, sums)
+
+-- a mailbox that keeps a place is there
+pub keeps : (o : Option MailboxState) (n : ℕ) → owed_in o ≡ n → 0 < n → IsSomeAnd o (λ b. 0 < b.owed)
+keeps None n h more = absurd (omega (arith, h, more))
+keeps (Some b) n h more = omega (arith, h, more)
+
+live_owes : (b : Bool) → b ≡ true → cond {A = ℕ} b 1 0 ≡ 1
+live_owes true h = refl
+live_owes false h = absurd (false≢true h)
+
+-- each live end of an open channel keeps a place
+pub ends_owed : (ports : List Port) (requests : List Request) (boxes : List MailboxState) (k : ℕ) → AreOwed ports requests boxes → IfSome (slice_get ports k) (λ port. EndsOwed port boxes)
+ends_owed ports requests boxes k owed = by (slice_get ports k) refl
+  where
+    by : (o : Option Port) → slice_get ports k ≡ o → IfSome o (λ port. EndsOwed port boxes)
+    by None at = tt
+    by (Some port) at = λ d live.
+        let one : owes d port ≡ 1 = live_owes (is_live_end (Some port) d) live in
+        let within : owes d port ≤ sum_by (owes d) ports = owes_within ports k port d at in
+        keeps (slice_get boxes d.0) (due ports requests d) (owed.each d) (omega (arith, one, within))
+
+-- the mailboxes keep what is due once the channel has ended
+pub owed_ended : (ports : List Port) (requests : List Request) (boxes boxes' : List MailboxState) (k : ℕ) (c : ContextNo) (e : Event) (port : Port) → AreOwed ports requests boxes → slice_get ports k ≡ Some port → Ended port c e boxes boxes' → AreOwed (set ports k (closed port)) requests boxes'
+owed_ended ports requests boxes boxes' k c e port owed at told = record {
+  each = λ d.
+      let sums : sum_by (owes d) (set ports k (closed port)) + owes d port ≡ sum_by (owes d) ports + 0 = owes_set ports k port (closed port) d at in
+      ap owed_in (told d) ∙ by (slice_get boxes d.0) (is_live_end (Some port) d) (is_among (other_side port c) d) (sum_by (owes d) ports) (sum_by (owes d) (set ports k (closed port))) (sum_by (awaits d) requests) (owed.each d) sums;
+}
+  where
+    by : (o : Option MailboxState) (live heard : Bool) (n m r : ℕ) → owed_in o ≡ n + r → m + cond live 1 0 ≡ n + 0 → owed_in (option_map (ended live heard e) o) ≡ m + r
+    by None true heard n m r h sums = absurd (omega (arith, h, sums))
+    by None false heard n m r h sums = omega (arith, h, sums)
+    by (Some b) true true n m r h sums = omega (arith, h, sums)
+    by (Some b) true false n m r h sums = omega (arith, h, sums)
+    by (Some b) false heard n m r h sums = omega (arith, h, sums)
+
+-- who hears of the end is a live end
+pub hears_live : (port : Port) (c d : ContextNo) → port.is_open ≡ true → is_among (other_side port c) d ≡ true → is_live_end (Some port) d ≡ true
+hears_live port c d open_now h = rw open_now (by (same_context port.opener c) h (same_context port.opener d) refl)
+  where
+    by : (s : Bool) → is_among (cond s port.live (port.opener ∷ [])) d ≡ true → (t : Bool) → same_context port.opener d ≡ t → (t || is_among port.live d) ≡ true
+    by s h true same = refl
+    by true h false same = h
+    by false h false same = absurd (false≢true (sym (rw same refl) ∙ h))
+
+-- what waits once the channel has ended
+pub queues_ended : (boxes boxes' : List MailboxState) (c : ContextNo) (e : Event) (port : Port) → port.is_open ≡ true → Ended port c e boxes boxes' → EachQueue (told_end port c e) (queues_in boxes) (queues_in boxes')
+queues_ended boxes boxes' c e port open_now told d =
+    slice_get-map queue_in boxes' d.0
+    ∙ ap (option_map queue_in) (told d)
+    ∙ by (slice_get boxes d.0) (is_live_end (Some port) d) (is_among (other_side port c) d) (hears_live port c d open_now)
+    ∙ ap (option_map (told_end port c e d)) (sym (slice_get-map queue_in boxes d.0))
+  where
+    by : (o : Option MailboxState) (live among : Bool) → (among ≡ true → live ≡ true) → option_map queue_in (option_map (ended live among e) o) ≡ option_map (λ queue. heard among e queue) (option_map queue_in o)
+    by None live among h = refl
+    by (Some b) true true h = refl
+    by (Some b) true false h = ap Some (sym (append-nil b.events))
+    by (Some b) false true h = absurd (false≢true (h refl))
+    by (Some b) false false h = ap Some (sym (append-nil b.events))
+
+-- the whole of it, of the channel with a number
+pub owed_after : (ports ports' : List Port) (requests : List Request) (boxes boxes' : List MailboxState) (k : ℕ) (c : ContextNo) (e : Event) → AreOwed ports requests boxes → is_open_port (slice_get ports k) ≡ true → IfSome (slice_get ports k) (λ port. Ended port c e boxes boxes') → IfSome (slice_get ports k) (λ port. ports' ≡ set ports k (closed port)) → AreOwed ports' requests boxes'
+owed_after ports ports' requests boxes boxes' k c e owed open_now = by (slice_get ports k) refl open_now
+  where
+    by : (o : Option Port) → slice_get ports k ≡ o → is_open_port o ≡ true → IfSome o (λ port. Ended port c e boxes boxes') → IfSome o (λ port. ports' ≡ set ports k (closed port)) → AreOwed ports' requests boxes'
+    by None at open_now told changed = absurd (false≢true open_now)
+    by (Some port) at open_now told changed = rw changed (owed_ended ports requests boxes boxes' k c e port owed at told)
+
+pub queues_after : (o : Option Port) (boxes boxes' : List MailboxState) (c : ContextNo) (e : Event) → is_open_port o ≡ true → IfSome o (λ port. Ended port c e boxes boxes') → IfSome o (λ port. EachQueue (told_end port c e) (queues_in boxes) (queues_in boxes'))
+queues_after None boxes boxes' c e open_now told = tt
+queues_after (Some port) boxes boxes' c e open_now told = queues_ended boxes boxes' c e port open_now told
+
+-- one mailbox drops what is of a channel
+pub queues_dropped : (boxes : List MailboxState) (c : ContextNo) (k : ℕ) (b b' : MailboxState) → c.0 < length boxes → b ≡ get_or boxes c.0 b → b'.events ≡ filter (is_apart k) b.events → EachQueue (dropped c k) (queues_in boxes) (queues_in (set boxes c.0 b'))
+queues_dropped boxes c k b b' within is left d =
+    slice_get-map queue_in (set boxes c.0 b') d.0
+    ∙ by (same_context c d) refl
+    ∙ ap (option_map (dropped c k d)) (sym (slice_get-map queue_in boxes d.0))
+  where
+    at : slice_get boxes c.0 ≡ Some b
+    at = slice_get_read boxes (length boxes) c.0 b refl within is
+
+    whole : (o : Option MailboxState) → option_map queue_in o ≡ option_map (λ q. q) (option_map queue_in o)
+    whole None = refl
+    whole (Some x) = refl
+
+    by : (s : Bool) → same_context c d ≡ s → option_map queue_in (slice_get (set boxes c.0 b') d.0) ≡ option_map (λ q. cond s (filter (is_apart k) q) q) (option_map queue_in (slice_get boxes d.0))
+    by true same = let e : c.0 ≡ d.0 = eqb-true c.0 d.0 same in rw (← e) (rw (set_here boxes c.0 b' b at, at) (ap Some left))
+    by false same = rw (set_there boxes c.0 d.0 b' (other_is c.0 d.0 same)) (whole (slice_get boxes d.0))
+
+-- who is a live end has a mailbox still, once the queues are changed
+pub there_after : (ports : List Port) (requests : List Request) (boxes boxes' : List MailboxState) (k : ℕ) (c d : ContextNo) (e : Event) → AreOwed ports requests boxes → is_live_end (slice_get ports k) d ≡ true → IfSome (slice_get ports k) (λ port. EachQueue (told_end port c e) (queues_in boxes) (queues_in boxes')) → d.0 < length boxes'
+there_after ports requests boxes boxes' k c d e owed live = by (slice_get ports k) refl live (ends_owed ports requests boxes k owed)
+  where
+    some_within : {A : Type 0} (xs : List A) (j : ℕ) (P : A → Type 0) → IsSomeAnd (slice_get xs j) P → j < length xs
+    some_within [] j P h = absurd h
+    some_within (x ∷ xs) zero P h = omega arith
+    some_within (x ∷ xs) (suc j) P h = let rest : j < length xs = some_within xs j P h in omega (arith, rest)
+
+    stays : (port : Port) (o : Option MailboxState) → IsSomeAnd o (λ b. 0 < b.owed) → (o' : Option MailboxState) → option_map queue_in o' ≡ option_map (told_end port c e d) (option_map queue_in o) → IsSomeAnd o' (λ b. 0 ≤ b.owed)
+    stays port None h o' same = absurd h
+    stays port (Some b) h None same = absurd (none-some _ same)
+    stays port (Some b) h (Some b') same = omega arith
+
+    by : (o : Option Port) → slice_get ports k ≡ o → is_live_end o d ≡ true → IfSome o (λ port. EndsOwed port boxes) → IfSome o (λ port. EachQueue (told_end port c e) (queues_in boxes) (queues_in boxes')) → d.0 < length boxes'
+    by None at live owed queues = absurd (false≢true live)
+    by (Some port) at live owed queues =
+        some_within boxes' d.0 (λ b. 0 ≤ b.owed) (stays port (slice_get boxes d.0) (owed d live) (slice_get boxes' d.0)
+        (sym (slice_get-map queue_in boxes' d.0) ∙ queues d ∙ ap (option_map (told_end port c e d)) (slice_get-map queue_in boxes d.0)))
+
+-- one change of the queues after another
+pub queues_parted : (o : Option Port) (old mid new : List (List Event)) (c : ContextNo) (k : ℕ) (e : Event) → IfSome o (λ port. EachQueue (told_end port c e) old mid) → EachQueue (dropped c k) mid new → IfSome o (λ port. EachQueue (parted port c k e) old new)
+queues_parted None old mid new c k e first second = tt
+queues_parted (Some port) old mid new c k e first second = λ d. second d ∙ ap (option_map (dropped c k d)) (first d) ∙ by d (slice_get old d.0)
+  where
+    by : (d : ContextNo) (o : Option (List Event)) → option_map (dropped c k d) (option_map (told_end port c e d) o) ≡ option_map (parted port c k e d) o
+    by d None = refl
+    by d (Some q) = refl
+
+pub owed_same : (ports : List Port) (requests : List Request) (old new : List MailboxState) → AreOwed ports requests old → ((d : ContextNo) → owed_in (slice_get new d.0) ≡ owed_in (slice_get old d.0)) → AreOwed ports requests new
+owed_same ports requests old new owed same = record { each = λ d. same d ∙ owed.each d }

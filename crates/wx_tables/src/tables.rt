@@ -1,0 +1,213 @@
+ghost use Rattle.std.specs.Prelude.{◌≡◌, [], ◌∷◌, ◌++◌, false, length, map, true, ◌<◌, IsTrue, IfOk, IfSome, OnOk, OnErr, slice_get, slice_set};
+ghost use Rattle.wx_id.specs.declared.events.EventKind.TheVariants as kind;
+ghost use Rattle.wx_id.specs.Contexts.{are_distinct, is_among};
+ghost use Rattle.wx_port.specs.Port.{closed, end_of, is_live_end, is_open_port, live_of, opened, IsSound};
+ghost use Rattle.wx_one_shot.specs.Requests.{is_settled_at, is_unsettled_at, settled, standing_at, without};
+ghost use Rattle.wx_tables.specs.Ending.{parted, told_end, EachQueue};
+ghost use Rattle.wx_tables.specs.Telling.{told_opener};
+ghost use Rattle.wx_tables.specs.Leaving.{in_entry, left_at, told_ends};
+ghost use Rattle.wx_one_shot.specs.declared.requests.Standing.TheVariants.{Open};
+ghost use Rattle.wx_tables.specs.Asking.{request_left_at, told_asker, told_outcomes};
+ghost use Rattle.wx_tables.specs.Opening.{AreThere, told_opening};
+
+use crate::{asking, ending, leaving, opening, telling};
+use std::alloc::Global;
+use std::marker::Model;
+use wx_id::{ChannelNo, ContextNo, End, EntryNo, Event, EventKind, NoMemory, RequestNo};
+use wx_mailbox::Mailbox;
+use wx_one_shot::{Requests, Standing};
+use wx_port::Ports;
+
+/// The channels and requests of a broker, and what waits for each of its contexts.
+#[derive(Drop)]
+pub struct Tables {
+    ports: Ports,
+    requests: Requests,
+    boxes: Vec<Mailbox>,
+}
+
+impl Model for Tables {
+    ghost use Rattle.wx_tables.specs.State.{TablesState, queues_in, AreOwed};
+
+    ghost Value = { TablesState };
+
+    ghost view = { λ a. record { ports = a.ports; requests = a.requests; queues = queues_in a.boxes.items } };
+
+    ghost invariant = { λ a. AreOwed a.ports a.requests a.boxes.items };
+}
+
+impl Tables {
+    /// No channels, requests or contexts.
+    pub fn new(alloc: Global) -> Tables
+        ensures ports { result.ports ≡ [] }
+        ensures requests { result.requests ≡ [] }
+        ensures queues { result.queues ≡ [] }
+    {
+        Tables {
+            ports: Ports::new(alloc),
+            requests: Requests::new(alloc),
+            boxes: Vec::new(alloc),
+        }
+    }
+
+    /// Context c, a live end of channel k, disconnects it in entry n.
+    pub fn disconnect(&mut self, k: ChannelNo, c: ContextNo, n: EntryNo)
+        requires { IsTrue (is_live_end (slice_get self.old.ports k.0) c) }
+        ensures ports { IfSome (slice_get self.old.ports k.0) (λ port. self.new.ports ≡ slice_set self.old.ports k.0 (closed port)) }
+        ensures requests { self.new.requests ≡ self.old.requests }
+        ensures queues { IfSome (slice_get self.old.ports k.0) (λ port. EachQueue (parted port c k.0 (record { entry = n; kind = kind.Disconnected k })) self.old.queues self.new.queues) }
+    {
+        let e = Event {
+            entry: n,
+            kind: EventKind::Disconnected(k),
+        };
+        ending::part(&mut self.ports, &self.requests, &mut self.boxes, k, c, e);
+    }
+
+    /// Opens a channel in entry n: each receiver is told. Where memory is refused nothing changes.
+    pub fn connect(
+        &mut self,
+        opener: ContextNo,
+        receivers: Vec<ContextNo>,
+        n: EntryNo,
+    ) -> Result<ChannelNo, NoMemory>
+        requires distinct { IsTrue (are_distinct receivers.items) }
+        requires other { is_among receivers.items opener ≡ false }
+        requires there { AreThere (opener ∷ receivers.items) self.old.queues }
+        ensures number { IfOk result (λ k. k.0 ≡ length self.old.ports) }
+        ensures ports { OnOk result (self.new.ports ≡ self.old.ports ++ opened opener receivers.items ∷ []) }
+        ensures requests { self.new.requests ≡ self.old.requests }
+        ensures queues { IfOk result (λ k. EachQueue (told_opening receivers.items (in_entry n (kind.Connected k))) self.old.queues self.new.queues) }
+        ensures err { OnErr result (self.new ≡ self.old) }
+    {
+        opening::open_channel(
+            &mut self.ports,
+            &self.requests,
+            &mut self.boxes,
+            opener,
+            receivers,
+            n,
+        )
+    }
+
+    /// Context c leaves each open channel of which it is a live end, in entry n.
+    pub fn leave_channels(&mut self, c: ContextNo, n: EntryNo)
+        ensures ports { self.new.ports ≡ map (left_at c) self.old.ports }
+        ensures requests { self.new.requests ≡ self.old.requests }
+        ensures queues { EachQueue (told_ends self.old.ports c n (length self.old.ports)) self.old.queues self.new.queues }
+    {
+        leaving::leave_channels(&mut self.ports, &self.requests, &mut self.boxes, c, n);
+    }
+
+    /// What c is to channel k, open or closed; `Neither` where k has not been given out.
+    pub fn end(&self, k: ChannelNo, c: ContextNo) -> End
+        ensures { result ≡ end_of (slice_get self.now.ports k.0) c }
+    {
+        self.ports.end(k, c)
+    }
+
+    /// Whether channel k has been opened and is open.
+    pub fn is_open(&self, k: ChannelNo) -> bool
+        ensures { result ≡ is_open_port (slice_get self.now.ports k.0) }
+    {
+        self.ports.is_open(k)
+    }
+
+    /// The live receivers of channel k.
+    pub fn live(&self, k: ChannelNo) -> &[ContextNo]
+        ensures value { result.now ≡ live_of (slice_get self.now.ports k.0) }
+        ensures sound { IfSome (slice_get self.now.ports k.0) IsSound }
+    {
+        self.ports.live(k)
+    }
+
+    /// How many channels were opened.
+    pub fn channels(&self) -> u64
+        ensures { result ≡ length self.now.ports }
+    {
+        self.ports.count()
+    }
+
+    /// Request r, which is not settled, has its first reply in entry n: its asker is told.
+    pub fn reply(&mut self, r: RequestNo, n: EntryNo)
+        requires { IsTrue (is_unsettled_at (slice_get self.old.requests r.0)) }
+        ensures ports { self.new.ports ≡ self.old.ports }
+        ensures requests { IfSome (slice_get self.old.requests r.0) (λ request. self.new.requests ≡ slice_set self.old.requests r.0 (settled request)) }
+        ensures queues { IfSome (slice_get self.old.requests r.0) (λ request. EachQueue (told_asker true request (in_entry n (kind.Replied r))) self.old.queues self.new.queues) }
+    {
+        let e = Event {
+            entry: n,
+            kind: EventKind::Replied(r),
+        };
+        asking::settle(&self.ports, &mut self.requests, &mut self.boxes, r, e);
+    }
+
+    /// Context c, whose standing is open, declines request r in entry n: where none may reply any more its asker is told.
+    pub fn decline(&mut self, r: RequestNo, c: ContextNo, n: EntryNo)
+        requires { standing_at (slice_get self.old.requests r.0) c ≡ Open }
+        ensures ports { self.new.ports ≡ self.old.ports }
+        ensures requests { IfSome (slice_get self.old.requests r.0) (λ request. self.new.requests ≡ slice_set self.old.requests r.0 (without c request)) }
+        ensures queues { IfSome (slice_get self.old.requests r.0) (λ request. EachQueue (told_asker (without c request).is_settled request (in_entry n (kind.Closed r))) self.old.queues self.new.queues) }
+    {
+        let e = Event {
+            entry: n,
+            kind: EventKind::Closed(r),
+        };
+        asking::drop_receiver(&self.ports, &mut self.requests, &mut self.boxes, r, c, e);
+    }
+
+    /// What context c is to request r; a stranger where r has not been given out.
+    pub fn standing(&self, r: RequestNo, c: ContextNo) -> Standing
+        ensures { result ≡ standing_at (slice_get self.now.requests r.0) c }
+    {
+        self.requests.standing(r, c)
+    }
+
+    /// Context c leaves each unsettled request that it asked or may still reply to, in entry n.
+    pub fn leave_requests(&mut self, c: ContextNo, n: EntryNo)
+        ensures ports { self.new.ports ≡ self.old.ports }
+        ensures requests { self.new.requests ≡ map (request_left_at c) self.old.requests }
+        ensures queues { EachQueue (told_outcomes self.old.requests c n (length self.old.requests)) self.old.queues self.new.queues }
+    {
+        asking::leave_requests(&self.ports, &mut self.requests, &mut self.boxes, c, n);
+    }
+
+    /// A message on the open channel k, in entry n, goes to its opener. Where memory is refused nothing changes.
+    pub fn hear(&mut self, k: ChannelNo, n: EntryNo) -> Result<(), NoMemory>
+        requires { IsTrue (is_open_port (slice_get self.old.ports k.0)) }
+        ensures ports { self.new.ports ≡ self.old.ports }
+        ensures requests { self.new.requests ≡ self.old.requests }
+        ensures queues { OnOk result (IfSome (slice_get self.old.ports k.0) (λ port. EachQueue (told_opener port (in_entry n (kind.Message k))) self.old.queues self.new.queues)) }
+        ensures err { OnErr result (self.new ≡ self.old) }
+    {
+        let e = Event {
+            entry: n,
+            kind: EventKind::Message(k),
+        };
+        telling::hear(&self.ports, &self.requests, &mut self.boxes, k, e)
+    }
+
+    /// Context c posts on the open channel k, in entry n: the other side is told. Where memory is refused nothing
+    /// changes.
+    pub fn post(&mut self, k: ChannelNo, c: ContextNo, n: EntryNo) -> Result<(), NoMemory>
+        requires { IsTrue (is_open_port (slice_get self.old.ports k.0)) }
+        ensures ports { self.new.ports ≡ self.old.ports }
+        ensures requests { self.new.requests ≡ self.old.requests }
+        ensures queues { OnOk result (IfSome (slice_get self.old.ports k.0) (λ port. EachQueue (told_end port c (in_entry n (kind.Message k))) self.old.queues self.new.queues)) }
+        ensures err { OnErr result (self.new ≡ self.old) }
+    {
+        let e = Event {
+            entry: n,
+            kind: EventKind::Message(k),
+        };
+        telling::post(&self.ports, &self.requests, &mut self.boxes, k, c, e)
+    }
+
+    /// Whether request r, which has been given out, is settled.
+    pub fn is_settled(&self, r: RequestNo) -> bool
+        requires { r.0 < length self.now.requests }
+        ensures { result ≡ is_settled_at (slice_get self.now.requests r.0) }
+    {
+        self.requests.is_settled(r)
+    }
+}
