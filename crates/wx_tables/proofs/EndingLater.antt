@@ -1,9 +1,8 @@
 -- What the end of a channel makes of the mailboxes.
-use Rattle.std.proofs.Common.{◌≡◌, ℕ, ◌<◌, List, [], ◌∷◌, refl, ap, sym, ◌∙◌, Bool, true, false, cond, arith}
-use Rattle.std.specs.Prelude.{Option, Some, None, IfSome, slice_get, ◌||◌, ◌&&◌, ◌==◌}
+use Rattle.std.proofs.Common.{◌≡◌, ℕ, ◌<◌, List, [], ◌∷◌, refl, ap, sym, ◌∙◌, Bool, true, false, cond}
+use Rattle.std.specs.Prelude.{Option, Some, None, IfSome, slice_get, ◌||◌, ◌&&◌}
 use Rattle.std.specs.Option.{option_map, IsSomeAnd}
 use Rattle.std.proofs.lemmas.Bool.{false≢true, true≢false, false_from_ne_true, eqb-true}
-use Rattle.std.proofs.lemmas.Bool.Decides.{nat_tests}
 use Rattle.wx_id.specs.declared.numbers.ContextNo.{ContextNo}
 use Rattle.wx_id.specs.declared.events.Event.{Event}
 use Rattle.wx_port.specs.Port.{Port, IsSound, is_open_port, live_of}
@@ -56,15 +55,12 @@ pub receivers_apart : (o : Option Port) (opener : ContextNo) → IfSome o IsSoun
 receivers_apart o opener sound is d among = false_from_ne_true _ (λ h. false≢true (sym (opener_apart o opener sound is d h) ∙ among))
 
 -- the two changes of the mailboxes are the channel's end
-pub ended_by_opener : (o : Option Port) (opener : ContextNo) (e : Event) (old mid new : List MailboxState) → is_open_port o ≡ true → IfSome o IsSound → IfSome o (λ port. opener ≡ port.opener) → Changed (paid e) (live_of o) old mid → Changed forgiven (opener ∷ []) mid new → IfSome o (λ port. Ended port port.opener e old new)
+pub ended_by_opener : (o : Option Port) (opener : ContextNo) (e : Event) (old mid new : List MailboxState) → is_open_port o ≡ true → IfSome o IsSound → IfSome o (λ port. opener ≡ port.opener) → Changed (paid e) (live_of o) old mid → Changed forgiven (opener ∷ []) mid new → IfSome o (λ port. Ended port port.live e old new)
 ended_by_opener None opener e old mid new open_now sound is first second = absurd (false≢true open_now)
 ended_by_opener (Some port) opener e old mid new open_now sound is first second = λ d.
-    second d ∙ rw (first d, is, open_now, self port.opener.0)
+    second d ∙ rw (first d, is, open_now)
     (by (slice_get old d.0) (same_context port.opener d) (is_among port.live d) (λ h. opener_apart (Some port) opener sound is d (rw is (rw h refl))))
   where
-    self : (n : ℕ) → (n == n) ≡ true
-    self n = grind (arith, nat_tests)
-
     by : (b : Option MailboxState) (s a : Bool) → (s ≡ true → a ≡ false) → option_map (λ b. cond (s || false) (forgiven b) b) (option_map (λ b. cond a (paid e b) b) b) ≡ option_map (ended (true && (s || a)) a e) b
     by None s a h = refl
     by (Some b) true true h = absurd (true≢false (h refl))
@@ -72,10 +68,10 @@ ended_by_opener (Some port) opener e old mid new open_now sound is first second 
     by (Some b) false true h = refl
     by (Some b) false false h = refl
 
-pub ended_by_receiver : (o : Option Port) (c opener : ContextNo) (e : Event) (old mid new : List MailboxState) → is_open_port o ≡ true → IfSome o IsSound → IfSome o (λ port. opener ≡ port.opener) → same_context opener c ≡ false → Changed (paid e) (opener ∷ []) old mid → Changed forgiven (live_of o) mid new → IfSome o (λ port. Ended port c e old new)
-ended_by_receiver None c opener e old mid new open_now sound is other first second = absurd (false≢true open_now)
-ended_by_receiver (Some port) c opener e old mid new open_now sound is other first second = λ d.
-    second d ∙ rw (first d, is, open_now, (ap (λ (o : ContextNo). same_context o c) (sym is) ∙ other))
+pub ended_by_receiver : (o : Option Port) (opener : ContextNo) (e : Event) (old mid new : List MailboxState) → is_open_port o ≡ true → IfSome o IsSound → IfSome o (λ port. opener ≡ port.opener) → Changed (paid e) (opener ∷ []) old mid → Changed forgiven (live_of o) mid new → IfSome o (λ port. Ended port (port.opener ∷ []) e old new)
+ended_by_receiver None opener e old mid new open_now sound is first second = absurd (false≢true open_now)
+ended_by_receiver (Some port) opener e old mid new open_now sound is first second = λ d.
+    second d ∙ rw (first d, is, open_now)
     (by (slice_get old d.0) (same_context port.opener d) (is_among port.live d) (λ h. opener_apart (Some port) opener sound is d (rw is (rw h refl))))
   where
     by : (b : Option MailboxState) (s a : Bool) → (s ≡ true → a ≡ false) → option_map (λ b. cond a (forgiven b) b) (option_map (λ b. cond (s || false) (paid e b) b) b) ≡ option_map (ended (true && (s || a)) (s || false) e) b

@@ -8,6 +8,7 @@ use Rattle.std.proofs.lemmas.Bool.{and_parts, not-true, false≢true, true≢fal
 use Rattle.std.proofs.lemmas.Bool.Decides.{nat_tests}
 use Rattle.wx_id.proofs.ListLemmas.{read_alike}
 use Rattle.wx_id.specs.declared.numbers.ContextNo.{ContextNo}
+use Rattle.wx_id.specs.declared.numbers.EntryNo.{EntryNo}
 use Rattle.wx_id.specs.declared.events.Event.{Event}
 use Rattle.wx_port.specs.Port.{Port, IsSound, is_live_end, live_of, closed, with_live, without}
 use Rattle.wx_id.specs.Contexts.{same_context, is_among, is_other, are_distinct}
@@ -17,7 +18,8 @@ use Rattle.wx_id.specs.ByContext.{Changed, EachHas}
 use Rattle.wx_tables.proofs.OwedLater.{owes_set, ends_owed}
 use Rattle.wx_tables.specs.State.{owes, awaits, owed_in, AreOwed, queue_in, queues_in}
 use Rattle.wx_tables.specs.Ending.{other_side, heard, told_end, EachQueue, EndsOwed}
-use Rattle.wx_tables.specs.Leaving.{closes_by, told_leave}
+use Rattle.wx_tables.specs.Leaving.{closes_by, told_leave, told_ends}
+use Rattle.wx_tables.specs.Asking.{told_left, told_outcomes}
 
 -- without one of them there is one fewer
 none_of : (c : ContextNo) (xs : List ContextNo) → is_among xs c ≡ false → filter (is_other c) xs ≡ xs
@@ -201,3 +203,11 @@ leave_quiet (Some port) c e old new closes same = λ d. ap (λ l. slice_get l d.
     by : (o : Option (List Event)) → o ≡ option_map (λ queue. queue ++ []) o
     by None = refl
     by (Some q) = ap Some (sym (append-nil q))
+
+-- one change of the queues after another
+pub queues_left : (ports : List Port) (requests : List Request) (c : ContextNo) (n : EntryNo) (old mid new : List (List Event)) → EachQueue (told_ends ports c n (length ports)) old mid → EachQueue (told_outcomes requests c n (length requests)) mid new → EachQueue (told_left ports requests c n) old new
+queues_left ports requests c n old mid new first second d = second d ∙ ap (option_map (told_outcomes requests c n (length requests) d)) (first d) ∙ by (slice_get old d.0)
+  where
+    by : (o : Option (List Event)) → option_map (told_outcomes requests c n (length requests) d) (option_map (told_ends ports c n (length ports) d) o) ≡ option_map (told_left ports requests c n d) o
+    by None = refl
+    by (Some q) = refl

@@ -1,6 +1,6 @@
 -- The places that are kept, when a channel or a request changes.
 use Rattle.std.proofs.Common.{◌≡◌, ℕ, suc, zero, ◌+◌, ◌<◌, ◌≤◌, List, [], ◌∷◌, length, set, get_or, refl, ap, sym, ◌∙◌, Bool, true, false, cond, arith, append-nil}
-use Rattle.std.specs.Prelude.{Option, Some, None, IfSome, slice_get, filter, ◌||◌}
+use Rattle.std.specs.Prelude.{Option, Some, None, IfSome, slice_get, ◌||◌}
 use Rattle.std.specs.Option.{option_map, IsSomeAnd}
 use Rattle.std.specs.List.{sum_by}
 use Rattle.std.proofs.lemmas.List.Sums.{sum_by-set}
@@ -13,9 +13,9 @@ use Rattle.wx_id.specs.declared.events.Event.{Event}
 use Rattle.wx_port.specs.Port.{Port, is_open_port, is_live_end, closed}
 use Rattle.wx_id.specs.Contexts.{same_context, is_among}
 use Rattle.wx_one_shot.specs.Requests.{Request}
-use Rattle.wx_mailbox.specs.Mailbox.{MailboxState, is_apart}
+use Rattle.wx_mailbox.specs.Mailbox.{MailboxState}
 use Rattle.wx_tables.specs.State.{owes, awaits, due, owed_in, AreOwed, queue_in, queues_in}
-use Rattle.wx_tables.specs.Ending.{other_side, ended, Ended, EndsOwed, heard, told_end, dropped, parted, EachQueue}
+use Rattle.wx_tables.specs.Ending.{told_each, other_side, ended, Ended, EndsOwed, heard, told_end, dropped, parted, EachQueue}
 
 plus_none : (n : ℕ) → n + 0 ≡ n
 plus_none n = omega arith
@@ -53,11 +53,11 @@ ends_owed ports requests boxes k owed = by (slice_get ports k) refl
         keeps (slice_get boxes d.0) (due ports requests d) (owed.each d) (omega (arith, one, within))
 
 -- the mailboxes keep what is due once the channel has ended
-pub owed_ended : (ports : List Port) (requests : List Request) (boxes boxes' : List MailboxState) (k : ℕ) (c : ContextNo) (e : Event) (port : Port) → AreOwed ports requests boxes → slice_get ports k ≡ Some port → Ended port c e boxes boxes' → AreOwed (set ports k (closed port)) requests boxes'
-owed_ended ports requests boxes boxes' k c e port owed at told = record {
+pub owed_ended : (ports : List Port) (requests : List Request) (boxes boxes' : List MailboxState) (k : ℕ) (to : List ContextNo) (e : Event) (port : Port) → AreOwed ports requests boxes → slice_get ports k ≡ Some port → Ended port to e boxes boxes' → AreOwed (set ports k (closed port)) requests boxes'
+owed_ended ports requests boxes boxes' k to e port owed at told = record {
   each = λ d.
       let sums : sum_by (owes d) (set ports k (closed port)) + owes d port ≡ sum_by (owes d) ports + 0 = owes_set ports k port (closed port) d at in
-      ap owed_in (told d) ∙ by (slice_get boxes d.0) (is_live_end (Some port) d) (is_among (other_side port c) d) (sum_by (owes d) ports) (sum_by (owes d) (set ports k (closed port))) (sum_by (awaits d) requests) (owed.each d) sums;
+      ap owed_in (told d) ∙ by (slice_get boxes d.0) (is_live_end (Some port) d) (is_among to d) (sum_by (owes d) ports) (sum_by (owes d) (set ports k (closed port))) (sum_by (awaits d) requests) (owed.each d) sums;
 }
   where
     by : (o : Option MailboxState) (live heard : Bool) (n m r : ℕ) → owed_in o ≡ n + r → m + cond live 1 0 ≡ n + 0 → owed_in (option_map (ended live heard e) o) ≡ m + r
@@ -67,22 +67,31 @@ owed_ended ports requests boxes boxes' k c e port owed at told = record {
     by (Some b) true false n m r h sums = omega (arith, h, sums)
     by (Some b) false heard n m r h sums = omega (arith, h, sums)
 
--- who hears of the end is a live end
-pub hears_live : (port : Port) (c d : ContextNo) → port.is_open ≡ true → is_among (other_side port c) d ≡ true → is_live_end (Some port) d ≡ true
-hears_live port c d open_now h = rw open_now (by (same_context port.opener c) h (same_context port.opener d) refl)
+-- the other side of an open channel is live, and so is its opener
+pub side_hears : (o : Option Port) (c : ContextNo) → is_open_port o ≡ true → IfSome o (λ port. (d : ContextNo) → is_among (other_side port c) d ≡ true → is_live_end (Some port) d ≡ true)
+side_hears None c open_now = tt
+side_hears (Some port) c open_now = λ d h. rw open_now (by d (same_context port.opener c) h (same_context port.opener d) refl)
   where
-    by : (s : Bool) → is_among (cond s port.live (port.opener ∷ [])) d ≡ true → (t : Bool) → same_context port.opener d ≡ t → (t || is_among port.live d) ≡ true
-    by s h true same = refl
-    by true h false same = h
-    by false h false same = absurd (false≢true (sym (rw same refl) ∙ h))
+    by : (d : ContextNo) (s : Bool) → is_among (cond s port.live (port.opener ∷ [])) d ≡ true → (t : Bool) → same_context port.opener d ≡ t → (t || is_among port.live d) ≡ true
+    by d s h true same = refl
+    by d true h false same = h
+    by d false h false same = absurd (false≢true (sym (rw same refl) ∙ h))
+
+pub opener_hears : (o : Option Port) → is_open_port o ≡ true → IfSome o (λ port. (d : ContextNo) → is_among (port.opener ∷ []) d ≡ true → is_live_end (Some port) d ≡ true)
+opener_hears None open_now = tt
+opener_hears (Some port) open_now = λ d h. rw open_now (by d (same_context port.opener d) h)
+  where
+    by : (d : ContextNo) (t : Bool) → (t || false) ≡ true → (t || is_among port.live d) ≡ true
+    by d true h = refl
+    by d false h = absurd (false≢true h)
 
 -- what waits once the channel has ended
-pub queues_ended : (boxes boxes' : List MailboxState) (c : ContextNo) (e : Event) (port : Port) → port.is_open ≡ true → Ended port c e boxes boxes' → EachQueue (told_end port c e) (queues_in boxes) (queues_in boxes')
-queues_ended boxes boxes' c e port open_now told d =
+queues_ended : (boxes boxes' : List MailboxState) (to : List ContextNo) (e : Event) (port : Port) → ((d : ContextNo) → is_among to d ≡ true → is_live_end (Some port) d ≡ true) → Ended port to e boxes boxes' → EachQueue (told_each to e) (queues_in boxes) (queues_in boxes')
+queues_ended boxes boxes' to e port hears told d =
     slice_get-map queue_in boxes' d.0
     ∙ ap (option_map queue_in) (told d)
-    ∙ by (slice_get boxes d.0) (is_live_end (Some port) d) (is_among (other_side port c) d) (hears_live port c d open_now)
-    ∙ ap (option_map (told_end port c e d)) (sym (slice_get-map queue_in boxes d.0))
+    ∙ by (slice_get boxes d.0) (is_live_end (Some port) d) (is_among to d) (hears d)
+    ∙ ap (option_map (told_each to e d)) (sym (slice_get-map queue_in boxes d.0))
   where
     by : (o : Option MailboxState) (live among : Bool) → (among ≡ true → live ≡ true) → option_map queue_in (option_map (ended live among e) o) ≡ option_map (λ queue. heard among e queue) (option_map queue_in o)
     by None live among h = refl
@@ -92,23 +101,23 @@ queues_ended boxes boxes' c e port open_now told d =
     by (Some b) false false h = ap Some (sym (append-nil b.events))
 
 -- the whole of it, of the channel with a number
-pub owed_after : (ports ports' : List Port) (requests : List Request) (boxes boxes' : List MailboxState) (k : ℕ) (c : ContextNo) (e : Event) → AreOwed ports requests boxes → is_open_port (slice_get ports k) ≡ true → IfSome (slice_get ports k) (λ port. Ended port c e boxes boxes') → IfSome (slice_get ports k) (λ port. ports' ≡ set ports k (closed port)) → AreOwed ports' requests boxes'
-owed_after ports ports' requests boxes boxes' k c e owed open_now = by (slice_get ports k) refl open_now
+pub owed_after : (ports ports' : List Port) (requests : List Request) (boxes boxes' : List MailboxState) (k : ℕ) (to : Port → List ContextNo) (e : Event) → AreOwed ports requests boxes → is_open_port (slice_get ports k) ≡ true → IfSome (slice_get ports k) (λ port. Ended port (to port) e boxes boxes') → IfSome (slice_get ports k) (λ port. ports' ≡ set ports k (closed port)) → AreOwed ports' requests boxes'
+owed_after ports ports' requests boxes boxes' k to e owed open_now = by (slice_get ports k) refl open_now
   where
-    by : (o : Option Port) → slice_get ports k ≡ o → is_open_port o ≡ true → IfSome o (λ port. Ended port c e boxes boxes') → IfSome o (λ port. ports' ≡ set ports k (closed port)) → AreOwed ports' requests boxes'
+    by : (o : Option Port) → slice_get ports k ≡ o → is_open_port o ≡ true → IfSome o (λ port. Ended port (to port) e boxes boxes') → IfSome o (λ port. ports' ≡ set ports k (closed port)) → AreOwed ports' requests boxes'
     by None at open_now told changed = absurd (false≢true open_now)
-    by (Some port) at open_now told changed = rw changed (owed_ended ports requests boxes boxes' k c e port owed at told)
+    by (Some port) at open_now told changed = rw changed (owed_ended ports requests boxes boxes' k (to port) e port owed at told)
 
-pub queues_after : (o : Option Port) (boxes boxes' : List MailboxState) (c : ContextNo) (e : Event) → is_open_port o ≡ true → IfSome o (λ port. Ended port c e boxes boxes') → IfSome o (λ port. EachQueue (told_end port c e) (queues_in boxes) (queues_in boxes'))
-queues_after None boxes boxes' c e open_now told = tt
-queues_after (Some port) boxes boxes' c e open_now told = queues_ended boxes boxes' c e port open_now told
+pub queues_after : (o : Option Port) (boxes boxes' : List MailboxState) (to : Port → List ContextNo) (e : Event) → IfSome o (λ port. (d : ContextNo) → is_among (to port) d ≡ true → is_live_end (Some port) d ≡ true) → IfSome o (λ port. Ended port (to port) e boxes boxes') → IfSome o (λ port. EachQueue (told_each (to port) e) (queues_in boxes) (queues_in boxes'))
+queues_after None boxes boxes' to e hears told = tt
+queues_after (Some port) boxes boxes' to e hears told = queues_ended boxes boxes' (to port) e port hears told
 
--- one mailbox drops what is of a channel
-pub queues_dropped : (boxes : List MailboxState) (c : ContextNo) (k : ℕ) (b b' : MailboxState) → c.0 < length boxes → b ≡ get_or boxes c.0 b → b'.events ≡ filter (is_apart k) b.events → EachQueue (dropped c k) (queues_in boxes) (queues_in (set boxes c.0 b'))
-queues_dropped boxes c k b b' within is left d =
+-- what waits once one mailbox is changed
+pub queues_at : (boxes : List MailboxState) (c : ContextNo) (change : List Event → List Event) (b b' : MailboxState) → c.0 < length boxes → b ≡ get_or boxes c.0 b → b'.events ≡ change b.events → EachQueue (λ d queue. cond (same_context c d) (change queue) queue) (queues_in boxes) (queues_in (set boxes c.0 b'))
+queues_at boxes c change b b' within is left d =
     slice_get-map queue_in (set boxes c.0 b') d.0
     ∙ by (same_context c d) refl
-    ∙ ap (option_map (dropped c k d)) (sym (slice_get-map queue_in boxes d.0))
+    ∙ ap (option_map (λ q. cond (same_context c d) (change q) q)) (sym (slice_get-map queue_in boxes d.0))
   where
     at : slice_get boxes c.0 ≡ Some b
     at = slice_get_read boxes (length boxes) c.0 b refl within is
@@ -117,7 +126,7 @@ queues_dropped boxes c k b b' within is left d =
     whole None = refl
     whole (Some x) = refl
 
-    by : (s : Bool) → same_context c d ≡ s → option_map queue_in (slice_get (set boxes c.0 b') d.0) ≡ option_map (λ q. cond s (filter (is_apart k) q) q) (option_map queue_in (slice_get boxes d.0))
+    by : (s : Bool) → same_context c d ≡ s → option_map queue_in (slice_get (set boxes c.0 b') d.0) ≡ option_map (λ q. cond s (change q) q) (option_map queue_in (slice_get boxes d.0))
     by true same = let e : c.0 ≡ d.0 = eqb-true c.0 d.0 same in rw (← e) (rw (set_here boxes c.0 b' b at, at) (ap Some left))
     by false same = rw (set_there boxes c.0 d.0 b' (other_is c.0 d.0 same)) (whole (slice_get boxes d.0))
 

@@ -1,10 +1,9 @@
 -- What a message makes of the mailboxes.
 use Rattle.std.proofs.Common.{◌≡◌, ℕ, ◌<◌, ◌≤◌, List, [], ◌∷◌, refl, ap, sym, ◌∙◌, Bool, true, false, cond, arith, append-nil}
-use Rattle.std.specs.Prelude.{Option, Some, None, IfSome, IsSome, slice_get, Result, Ok, Err, OnOk, ◌||◌, ◌==◌}
+use Rattle.std.specs.Prelude.{Option, Some, None, IfSome, IsSome, slice_get, Result, Ok, Err, OnOk, ◌||◌}
 use Rattle.std.specs.Option.{option_map, IsSomeAnd}
 use Rattle.std.proofs.lemmas.Option.{slice_get-map}
-use Rattle.std.proofs.lemmas.Bool.{false≢true, eqb-true}
-use Rattle.std.proofs.lemmas.Bool.Decides.{nat_tests}
+use Rattle.std.proofs.lemmas.Bool.{false≢true}
 use Rattle.wx_id.specs.declared.numbers.ContextNo.{ContextNo}
 use Rattle.wx_id.specs.declared.events.Event.{Event}
 use Rattle.wx_port.specs.Port.{Port, is_open_port, live_of}
@@ -14,8 +13,8 @@ use Rattle.wx_mailbox.specs.Mailbox.{MailboxState, told}
 use Rattle.wx_id.specs.ByContext.{EachHas, Changed}
 use Rattle.wx_tables.proofs.OwedLater.{ends_owed}
 use Rattle.wx_tables.specs.State.{owed_in, AreOwed, queue_in, queues_in}
-use Rattle.wx_tables.specs.Ending.{heard, EachQueue, told_end}
-use Rattle.wx_tables.specs.Opening.{AreThere, told_opening}
+use Rattle.wx_tables.specs.Ending.{heard, EachQueue, told_end, told_each}
+use Rattle.wx_tables.specs.Opening.{AreThere}
 use Rattle.wx_tables.specs.Telling.{told_opener}
 use Rattle.wx_tables.proofs.EndingLater.{live_owed, opener_owed}
 
@@ -27,8 +26,8 @@ owed_told ports requests to e old new owed changed = record { each = λ d. ap ow
     by (Some b) true = refl
     by (Some b) false = refl
 
-pub queues_told : (to : List ContextNo) (e : Event) (old new : List MailboxState) → Changed (told e) to old new → EachQueue (told_opening to e) (queues_in old) (queues_in new)
-queues_told to e old new changed d = slice_get-map queue_in new d.0 ∙ ap (option_map queue_in) (changed d) ∙ by (slice_get old d.0) (is_among to d) ∙ ap (option_map (told_opening to e d)) (sym (slice_get-map queue_in old d.0))
+pub queues_told : (to : List ContextNo) (e : Event) (old new : List MailboxState) → Changed (told e) to old new → EachQueue (told_each to e) (queues_in old) (queues_in new)
+queues_told to e old new changed d = slice_get-map queue_in new d.0 ∙ ap (option_map queue_in) (changed d) ∙ by (slice_get old d.0) (is_among to d) ∙ ap (option_map (told_each to e d)) (sym (slice_get-map queue_in old d.0))
   where
     by : (o : Option MailboxState) (s : Bool) → option_map queue_in (option_map (λ b. cond s (told e b) b) o) ≡ option_map (λ queue. heard s e queue) (option_map queue_in o)
     by None s = refl
@@ -59,28 +58,28 @@ on_ok : {A B P Q : Type 0} (r : Result A B) → (P → Q) → OnOk r P → OnOk 
 on_ok (Ok a) f h = f h
 on_ok (Err b) f h = tt
 
-pub opener_told : {A B : Type 0} (r : Result A B) (o : Option Port) (opener : ContextNo) (e : Event) (old new : List (List Event)) → IfSome o (λ port. opener ≡ port.opener) → OnOk r (EachQueue (told_opening (opener ∷ []) e) old new) → OnOk r (IfSome o (λ port. EachQueue (told_opener port e) old new))
+pub opener_told : {A B : Type 0} (r : Result A B) (o : Option Port) (opener : ContextNo) (e : Event) (old new : List (List Event)) → IfSome o (λ port. opener ≡ port.opener) → OnOk r (EachQueue (told_each (opener ∷ []) e) old new) → OnOk r (IfSome o (λ port. EachQueue (told_opener port e) old new))
 opener_told r o opener e old new is h = on_ok r (by o is) h
   where
     one : (s : Bool) → (s || false) ≡ s
     one true = refl
     one false = refl
 
-    by : (o : Option Port) → IfSome o (λ port. opener ≡ port.opener) → EachQueue (told_opening (opener ∷ []) e) old new → IfSome o (λ port. EachQueue (told_opener port e) old new)
+    by : (o : Option Port) → IfSome o (λ port. opener ≡ port.opener) → EachQueue (told_each (opener ∷ []) e) old new → IfSome o (λ port. EachQueue (told_opener port e) old new)
     by None is h = tt
     by (Some port) is h = λ d. h d ∙ ap (λ s. option_map (λ queue. heard s e queue) (slice_get old d.0)) (one (same_context opener d) ∙ ap (λ (c : ContextNo). same_context c d) is)
 
-pub live_told : {A B : Type 0} (r : Result A B) (o : Option Port) (live : List ContextNo) (e : Event) (old new : List (List Event)) → live ≡ live_of o → OnOk r (EachQueue (told_opening live e) old new) → OnOk r (IfSome o (λ port. EachQueue (told_opening port.live e) old new))
+pub live_told : {A B : Type 0} (r : Result A B) (o : Option Port) (live : List ContextNo) (e : Event) (old new : List (List Event)) → live ≡ live_of o → OnOk r (EachQueue (told_each live e) old new) → OnOk r (IfSome o (λ port. EachQueue (told_each port.live e) old new))
 live_told r o live e old new is h = on_ok r (by o is) h
   where
-    by : (o : Option Port) → live ≡ live_of o → EachQueue (told_opening live e) old new → IfSome o (λ port. EachQueue (told_opening port.live e) old new)
+    by : (o : Option Port) → live ≡ live_of o → EachQueue (told_each live e) old new → IfSome o (λ port. EachQueue (told_each port.live e) old new)
     by None is h = tt
-    by (Some port) is h = λ d. h d ∙ ap (λ l. option_map (told_opening l e d) (slice_get old d.0)) is
+    by (Some port) is h = λ d. h d ∙ ap (λ l. option_map (told_each l e d) (slice_get old d.0)) is
 
-pub post_by_opener : {A B : Type 0} (r : Result A B) (o : Option Port) (opener c : ContextNo) (e : Event) (old new : List (List Event)) → IfSome o (λ port. opener ≡ port.opener) → same_context opener c ≡ true → OnOk r (IfSome o (λ port. EachQueue (told_opening port.live e) old new)) → OnOk r (IfSome o (λ port. EachQueue (told_end port c e) old new))
+pub post_by_opener : {A B : Type 0} (r : Result A B) (o : Option Port) (opener c : ContextNo) (e : Event) (old new : List (List Event)) → IfSome o (λ port. opener ≡ port.opener) → same_context opener c ≡ true → OnOk r (IfSome o (λ port. EachQueue (told_each port.live e) old new)) → OnOk r (IfSome o (λ port. EachQueue (told_end port c e) old new))
 post_by_opener r o opener c e old new is same h = on_ok r (by o is) h
   where
-    by : (o : Option Port) → IfSome o (λ port. opener ≡ port.opener) → IfSome o (λ port. EachQueue (told_opening port.live e) old new) → IfSome o (λ port. EachQueue (told_end port c e) old new)
+    by : (o : Option Port) → IfSome o (λ port. opener ≡ port.opener) → IfSome o (λ port. EachQueue (told_each port.live e) old new) → IfSome o (λ port. EachQueue (told_end port c e) old new)
     by None is h = tt
     by (Some port) is h = λ d. h d ∙ ap (λ s. option_map (λ queue. heard (is_among (cond s port.live (port.opener ∷ [])) d) e queue) (slice_get old d.0)) (sym (ap (λ (x : ContextNo). same_context x c) (sym is) ∙ same))
 
@@ -96,13 +95,3 @@ post_by_receiver r o opener c e old new is same h = on_ok r (by o is) h
     by (Some port) is h = λ d. h d
         ∙ ap (λ s. option_map (λ queue. heard s e queue) (slice_get old d.0)) (one (same_context port.opener d))
         ∙ ap (λ s. option_map (λ queue. heard (is_among (cond s port.live (port.opener ∷ [])) d) e queue) (slice_get old d.0)) (sym (ap (λ (x : ContextNo). same_context x c) (sym is) ∙ same))
-
-pub same_test : (m n : ℕ) → m ≡ n → (m == n) ≡ true
-same_test m n h = grind (arith, nat_tests)
-
-pub other_test : (m n : ℕ) → (m ≡ n → ⊥) → (m == n) ≡ false
-other_test m n h = by (m == n) refl
-  where
-    by : (b : Bool) → (m == n) ≡ b → b ≡ false
-    by true e = absurd (h (eqb-true m n e))
-    by false e = refl

@@ -1,15 +1,16 @@
 -- What the outcome of a request tells, and what the leave of a context makes of requests.
-use Rattle.std.specs.Prelude.{ℕ, List, [], ◌∷◌, ◌++◌, Bool, false, not, ◌&&◌, ◌==◌, cond, Option, Some, None, map, flat_map, slice_get}
+use Rattle.std.specs.Prelude.{ℕ, List, [], ◌∷◌, ◌++◌, Bool, false, not, ◌&&◌, ◌==◌, cond, Option, Some, None, map, flat_map, length, slice_get}
 use Rattle.std.specs.List.{range_with_len}
 use Rattle.wx_id.specs.declared.numbers.ContextNo.{ContextNo}
 use Rattle.wx_id.specs.declared.numbers.EntryNo.{EntryNo}
 use Rattle.wx_id.specs.declared.events.Event.{Event}
 use Rattle.wx_id.specs.declared.events.EventKind.{EventKind}
 use Rattle.wx_id.specs.declared.events.EventKind.TheVariants.{Closed}
+use Rattle.wx_port.specs.Port.{Port}
 use Rattle.wx_one_shot.specs.Requests.{Request, concerns_at, settled, without}
 use Rattle.wx_id.specs.Contexts.{is_among}
 use Rattle.wx_tables.specs.Ending.{heard}
-use Rattle.wx_tables.specs.Leaving.{in_entry}
+use Rattle.wx_tables.specs.Leaving.{in_entry, told_ends}
 
 -- the asker of the request hears of its outcome
 abbrev pub told_asker : Bool → Request → Event → ContextNo → List Event → List Event
@@ -38,3 +39,9 @@ outcomes_told requests c d below = flat_map (outcome_told requests c d) (range_w
 
 abbrev pub told_outcomes : List Request → ContextNo → EntryNo → ℕ → ContextNo → List Event → List Event
 told_outcomes requests c n below d queue = queue ++ map (in_entry n) (outcomes_told requests c d below)
+
+-- what waits once context c has left: each ended channel is told, and then each unanswered request
+abbrev pub told_left :
+    List Port → List Request → ContextNo → EntryNo → ContextNo → List Event → List Event
+told_left ports requests c n d queue =
+    told_outcomes requests c n (length requests) d (told_ends ports c n (length ports) d queue)

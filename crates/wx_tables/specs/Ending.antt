@@ -12,17 +12,21 @@ use Rattle.wx_tables.specs.State.{owed_in}
 abbrev pub other_side : Port → ContextNo → List ContextNo
 other_side port c = cond (same_context port.opener c) port.live (port.opener ∷ [])
 
--- a mailbox when a channel ends: a live end of it that hears of it is told, in the place that was kept, and another gives that place up
+-- a mailbox when a channel ends: a live end that hears of it is told, in the place that was kept, and another gives that
+-- place up
 abbrev pub ended : Bool → Bool → Event → MailboxState → MailboxState
 ended live heard e b = cond live (cond heard (paid e b) (forgiven b)) b
 
--- all mailboxes when the channel ends
-abbrev pub Ended : Port → ContextNo → Event → List MailboxState → List MailboxState → Type 0
-Ended port c e old new = (d : ContextNo) → slice_get new d.0 ≡ option_map (ended (is_live_end (Some port) d) (is_among (other_side port c) d) e) (slice_get old d.0)
+-- all mailboxes when the channel ends, of which these of its live ends hear
+abbrev pub Ended : Port → List ContextNo → Event → List MailboxState → List MailboxState → Type 0
+Ended port to e old new =
+    (d : ContextNo) → slice_get new d.0
+    ≡ option_map (ended (is_live_end (Some port) d) (is_among to d) e) (slice_get old d.0)
 
 -- each live end of the channel has a mailbox that keeps a place
 abbrev pub EndsOwed : Port → List MailboxState → Type 0
-EndsOwed port boxes = (d : ContextNo) → is_live_end (Some port) d ≡ true → IsSomeAnd (slice_get boxes d.0) (λ b. 0 < b.owed)
+EndsOwed port boxes =
+    (d : ContextNo) → is_live_end (Some port) d ≡ true → IsSomeAnd (slice_get boxes d.0) (λ b. 0 < b.owed)
 
 -- a queue with the event, where it is heard
 abbrev pub heard : Bool → Event → List Event → List Event
@@ -30,11 +34,16 @@ heard b e queue = queue ++ cond b (e ∷ []) []
 
 -- the queues after each of them is changed by the number of its context
 abbrev pub EachQueue : (ContextNo → List Event → List Event) → List (List Event) → List (List Event) → Type 0
-EachQueue change old new = (d : ContextNo) → slice_get new d.0 ≡ option_map (change d) (slice_get old d.0)
+EachQueue change old new =
+    (d : ContextNo) → slice_get new d.0 ≡ option_map (change d) (slice_get old d.0)
+
+-- what waits once each of these is told
+abbrev pub told_each : List ContextNo → Event → ContextNo → List Event → List Event
+told_each to e d queue = heard (is_among to d) e queue
 
 -- what waits once the channel has ended by c
 abbrev pub told_end : Port → ContextNo → Event → ContextNo → List Event → List Event
-told_end port c e d queue = heard (is_among (other_side port c) d) e queue
+told_end port c e d queue = told_each (other_side port c) e d queue
 
 -- context c drops what waits of channel k
 abbrev pub dropped : ContextNo → ℕ → ContextNo → List Event → List Event

@@ -1,9 +1,9 @@
 //! What the end of a channel tells.
-ghost use Rattle.std.specs.Prelude.{◌≡◌, ℕ, ◌<◌, length, IsTrue, IfSome, false, slice_get, slice_set};
+ghost use Rattle.std.specs.Prelude.{◌≡◌, ℕ, ◌<◌, [], ◌∷◌, length, IsTrue, IfSome, slice_get, slice_set};
 ghost use Rattle.wx_port.specs.Port.{closed, is_open_port, is_live_end};
 ghost use Rattle.wx_id.specs.Contexts.{same_context};
 ghost use Rattle.wx_tables.specs.State.{AreOwed, queues_in};
-ghost use Rattle.wx_tables.specs.Ending.{dropped, told_end, parted, EachQueue, Ended, EndsOwed, SameOwed};
+ghost use Rattle.wx_tables.specs.Ending.{other_side, told_each, dropped, told_end, parted, EachQueue, Ended, EndsOwed, SameOwed};
 
 use wx_id::{ChannelNo, ContextNo, Event};
 use wx_mailbox::{Mailbox, mailboxes};
@@ -15,7 +15,7 @@ fn end_by_opener(ports: &Ports, boxes: &mut Vec<Mailbox>, k: ChannelNo, opener: 
     requires is_open { IsTrue (is_open_port (slice_get ports.now k.0)) }
     requires opener { IfSome (slice_get ports.now k.0) (λ port. opener ≡ port.opener) }
     requires owed { IfSome (slice_get ports.now k.0) (λ port. EndsOwed port boxes.old.items) }
-    ensures { IfSome (slice_get ports.now k.0) (λ port. Ended port port.opener e boxes.old.items boxes.new.items) }
+    ensures { IfSome (slice_get ports.now k.0) (λ port. Ended port port.live e boxes.old.items boxes.new.items) }
 {
     let live = ports.live(k);
     mailboxes::pay(boxes, live, e);
@@ -27,17 +27,15 @@ fn end_by_receiver(
     ports: &Ports,
     boxes: &mut Vec<Mailbox>,
     k: ChannelNo,
-    c: ContextNo,
     opener: ContextNo,
     e: Event,
 )
     requires is_open { IsTrue (is_open_port (slice_get ports.now k.0)) }
     requires opener { IfSome (slice_get ports.now k.0) (λ port. opener ≡ port.opener) }
-    requires other { (same_context opener c) ≡ false }
     requires owed { IfSome (slice_get ports.now k.0) (λ port. EndsOwed port boxes.old.items) }
-    ensures { IfSome (slice_get ports.now k.0) (λ port. Ended port c e boxes.old.items boxes.new.items) }
+    ensures { IfSome (slice_get ports.now k.0)
+        (λ port. Ended port (port.opener ∷ []) e boxes.old.items boxes.new.items) }
 {
-    let _ = c;
     let live = ports.live(k);
     mailboxes::pay(boxes, &[opener], e);
     mailboxes::forgive(boxes, live);
@@ -48,13 +46,13 @@ fn tell_end(ports: &Ports, boxes: &mut Vec<Mailbox>, k: ChannelNo, c: ContextNo,
     requires there { k.0 < length ports.now }
     requires is_open { IsTrue (is_open_port (slice_get ports.now k.0)) }
     requires owed { IfSome (slice_get ports.now k.0) (λ port. EndsOwed port boxes.old.items) }
-    ensures { IfSome (slice_get ports.now k.0) (λ port. Ended port c e boxes.old.items boxes.new.items) }
+    ensures { IfSome (slice_get ports.now k.0) (λ port. Ended port (other_side port c) e boxes.old.items boxes.new.items) }
 {
     let opener = ports.opener(k);
     if opener.0 == c.0 {
         end_by_opener(ports, boxes, k, opener, e)
     } else {
-        end_by_receiver(ports, boxes, k, c, opener, e)
+        end_by_receiver(ports, boxes, k, opener, e)
     }
 }
 
@@ -75,6 +73,27 @@ pub fn end_channel(
 {
     let _ = requests;
     tell_end(ports, boxes, k, c, e);
+    ports.close(k);
+}
+
+/// The host of an open channel ends it: its opener is told, and it is closed.
+pub fn end_by_host(
+    ports: &mut Ports,
+    requests: &Requests,
+    boxes: &mut Vec<Mailbox>,
+    k: ChannelNo,
+    e: Event,
+)
+    requires owed { AreOwed ports.old requests.now boxes.old.items }
+    requires is_open { IsTrue (is_open_port (slice_get ports.old k.0)) }
+    ensures owed { AreOwed ports.new requests.now boxes.new.items }
+    ensures ports { IfSome (slice_get ports.old k.0) (λ port. ports.new ≡ slice_set ports.old k.0 (closed port)) }
+    ensures queues { IfSome (slice_get ports.old k.0)
+        (λ port. EachQueue (told_each (port.opener ∷ []) e) (queues_in boxes.old.items) (queues_in boxes.new.items)) }
+{
+    let _ = requests;
+    let opener = ports.opener(k);
+    end_by_receiver(ports, boxes, k, opener, e);
     ports.close(k);
 }
 

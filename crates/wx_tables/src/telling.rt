@@ -3,8 +3,8 @@ ghost use Rattle.std.specs.Prelude.{◌≡◌, ◌<◌, ◌∷◌, [], length, I
 ghost use Rattle.wx_id.specs.Contexts.{are_distinct};
 ghost use Rattle.wx_port.specs.Port.{is_live_end, is_open_port};
 ghost use Rattle.wx_tables.specs.State.{AreOwed, queues_in};
-ghost use Rattle.wx_tables.specs.Ending.{told_end, EachQueue};
-ghost use Rattle.wx_tables.specs.Opening.{AreThere, told_opening};
+ghost use Rattle.wx_tables.specs.Ending.{told_end, EachQueue, told_each};
+ghost use Rattle.wx_tables.specs.Opening.{AreThere};
 ghost use Rattle.wx_tables.specs.Telling.{told_opener};
 
 use wx_id::{ChannelNo, ContextNo, Event, NoMemory};
@@ -24,7 +24,7 @@ fn tell_all(
     requires distinct { IsTrue (are_distinct to.now) }
     requires there { AreThere to.now (queues_in boxes.old.items) }
     ensures owed { AreOwed ports.now requests.now boxes.new.items }
-    ensures queues { OnOk result (EachQueue (told_opening to.now e) (queues_in boxes.old.items) (queues_in boxes.new.items)) }
+    ensures queues { OnOk result (EachQueue (told_each to.now e) (queues_in boxes.old.items) (queues_in boxes.new.items)) }
     ensures same { OnErr result (queues_in boxes.new.items ≡ queues_in boxes.old.items) }
 {
     let _ = ports;
@@ -65,7 +65,7 @@ fn tell_live(
     requires owed { AreOwed ports.now requests.now boxes.old.items }
     requires is_open { IsTrue (is_open_port (slice_get ports.now k.0)) }
     ensures owed { AreOwed ports.now requests.now boxes.new.items }
-    ensures queues { OnOk result (IfSome (slice_get ports.now k.0) (λ port. EachQueue (told_opening port.live e) (queues_in boxes.old.items) (queues_in boxes.new.items))) }
+    ensures queues { OnOk result (IfSome (slice_get ports.now k.0) (λ port. EachQueue (told_each port.live e) (queues_in boxes.old.items) (queues_in boxes.new.items))) }
     ensures same { OnErr result (queues_in boxes.new.items ≡ queues_in boxes.old.items) }
 {
     let live = ports.live(k);

@@ -18,5 +18,5 @@ forgive-requires-clause-owed c =
 
 pub returns : goal.returns
 returns c =
-    ended_by_receiver (slice_get c.args.ports.now c.args.k.0) c.args.c c.args.opener c.args.e c.args.boxes.now.items c.pay.new.boxes.items c.forgive.new.boxes.items c.requires.is_open c.live-live.ensures.sound c.requires.opener c.requires.other
+    ended_by_receiver (slice_get c.args.ports.now c.args.k.0) c.args.opener c.args.e c.args.boxes.now.items c.pay.new.boxes.items c.forgive.new.boxes.items c.requires.is_open c.live-live.ensures.sound c.requires.opener
     c.pay.ensures (rw c.live-live.ensures.value at c.forgive.ensures)

@@ -15,5 +15,5 @@ returns-clause-kept c = roomier_then c.args.boxes.now.items c.make_room.new.boxe
 
 pub returns-clause-receivers : goal.returns-clause-receivers
 returns-clause-receivers c =
-    let first : EachHas (λ b. 2 ≤ b.room) c.args.receivers.now c.make_room.new.boxes.items = ok_holds c.make_room.result c.make_room.ensures.ok (sym c.is_err.ensures.value ∙ c.if-is_err.false) in
-    on_ok c.make_room-2.result (λ _. room_stays 2 c.args.receivers.now c.make_room.new.boxes.items c.make_room-2.new.boxes.items c.make_room-2.ensures.kept first) c.make_room-2.ensures.ok
+    let first : EachHas (λ b. c.args.n ≤ b.room) c.args.receivers.now c.make_room.new.boxes.items = ok_holds c.make_room.result c.make_room.ensures.ok (sym c.is_err.ensures.value ∙ c.if-is_err.false) in
+    on_ok c.make_room-2.result (λ _. room_stays c.args.n c.args.receivers.now c.make_room.new.boxes.items c.make_room-2.new.boxes.items c.make_room-2.ensures.kept first) c.make_room-2.ensures.ok

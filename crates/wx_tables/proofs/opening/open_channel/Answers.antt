@@ -1,7 +1,8 @@
-use Rattle.std.proofs.Common.{◌∙◌, sym, [], ◌∷◌, ◌<◌}
+use Rattle.std.proofs.Common.{◌∙◌, refl, sym, [], ◌∷◌, ◌<◌}
 use Rattle.wx_id.specs.declared.events.EventKind.TheVariants as kind
 use Rattle.wx_port.specs.Port.{opened}
 use Rattle.wx_id.specs.ByContext.{EachHas}
+use Rattle.wx_mailbox.specs.Mailbox.{connected}
 use Rattle.wx_tables.specs.Leaving.{in_entry}
 use Rattle.wx_tables.proofs.OpeningLater.{roomier_owed, roomier_queues, last_live, owed_begun, queues_begun, ok_holds}
 use Rattle.wx_tables.proofs.opening.open_channel.Goals as goal
@@ -41,4 +42,4 @@ pub returns-clause-queues : goal.returns-clause-queues
 returns-clause-queues c =
     let live = last_live c.args.ports.now c.open.new.self (opened c.args.opener c.args.receivers.items) c.in-Ok.k.0 c.in-Ok.ensures.number c.in-Ok.ensures.ok in
     rw (← roomier_queues c.args.boxes.now.items c.make_room.new.boxes.items c.make_room.ensures.kept)
-    (queues_begun c.args.opener c.args.receivers.items (in_entry c.args.n (kind.Connected c.in-Ok.k)) c.make_room.new.boxes.items c.tell_opening.new.boxes.items c.requires.other (rw live at c.tell_opening.ensures))
+    (queues_begun (connected (in_entry c.args.n (kind.Connected c.in-Ok.k))) c.args.opener c.args.receivers.items (in_entry c.args.n (kind.Connected c.in-Ok.k)) c.make_room.new.boxes.items c.tell_opening.new.boxes.items (λ b. refl) c.requires.other (rw live at c.tell_opening.ensures))

@@ -13,4 +13,4 @@ pub keep-requires-clause-room : goal.keep-requires-clause-room
 keep-requires-clause-room c = still_has (connected c.args.e) (λ b. 0 < b.room) c.live-live.result.now (c.args.opener ∷ []) c.args.boxes.now.items c.connect.new.boxes.items c.connect.ensures (rw c.live-live.ensures.value (opener_not_told c.args.opener (live_of (slice_get c.args.ports.now c.args.k.0)) c.requires.other)) c.requires.opener
 
 pub returns : goal.returns
-returns c = begun_by c.args.opener (live_of (slice_get c.args.ports.now c.args.k.0)) c.args.e c.args.boxes.now.items c.connect.new.boxes.items c.keep.new.boxes.items c.requires.other (rw c.live-live.ensures.value at c.connect.ensures) c.keep.ensures
+returns c = begun_by (connected c.args.e) c.args.opener (live_of (slice_get c.args.ports.now c.args.k.0)) c.args.boxes.now.items c.connect.new.boxes.items c.keep.new.boxes.items c.requires.other (rw c.live-live.ensures.value at c.connect.ensures) c.keep.ensures
