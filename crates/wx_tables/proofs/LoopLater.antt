@@ -1,4 +1,4 @@
--- Channels and queues as far as the leave of a context has come.
+-- A list as far as the leave of a context has come, and what is told of it: the same of channels and of requests.
 use Rattle.std.proofs.Common.{◌≡◌, ℕ, suc, zero, ◌+◌, ◌-◌, ◌<◌, ◌≤◌, List, [], ◌∷◌, ◌++◌, length, set, map, refl, ap, sym, ◌∙◌, Bool, true, false, cond, arith, subst, append-nil, zero-add}
 use Rattle.std.specs.Prelude.{Option, Some, None, IfSome, slice_get, flat_map, nat_lt, ◌&&◌, ◌==◌}
 use Rattle.std.specs.Option.{option_map}
@@ -6,89 +6,17 @@ use Rattle.std.specs.List.{range_with_len}
 use Rattle.std.proofs.lemmas.Option.{slice_get-map}
 use Rattle.std.proofs.lemmas.List.{append_assoc, map-append, map-id, flat_map_more}
 use Rattle.std.proofs.lemmas.List.FromFn.{map-range_with_len_more}
+use Rattle.std.proofs.lemmas.Iterator.Adapters.{option_map_id}
 use Rattle.std.proofs.lemmas.Bool.{false≢true, eqb-true}
 use Rattle.std.proofs.lemmas.Bool.Decides.{nat_tests}
 use Rattle.wx_id.proofs.ByContextLemmas.{other_is}
+use Rattle.wx_id.proofs.ListLemmas.{set_here, set_there, read_alike}
 use Rattle.wx_id.specs.declared.numbers.ContextNo.{ContextNo}
-use Rattle.wx_id.specs.declared.numbers.ChannelNo.{ChannelNo}
 use Rattle.wx_id.specs.declared.numbers.EntryNo.{EntryNo}
 use Rattle.wx_id.specs.declared.events.Event.{Event}
-use Rattle.wx_id.specs.declared.events.EventKind.TheVariants.{Disconnected}
-use Rattle.wx_port.specs.Port.{Port, is_live_end, without}
-use Rattle.wx_id.specs.Contexts.{is_among}
-use Rattle.wx_id.proofs.ListLemmas.{set_here, set_there, read_alike}
-use Rattle.wx_tables.specs.Ending.{other_side, EachQueue}
-use Rattle.wx_tables.specs.Leaving.{left_at, closes_by, told_leave, hears_end, end_told, ends_told, in_entry, told_ends}
-
--- the channels as far as the leave has come
-abbrev pub LeftBelow : ContextNo → ℕ → List Port → List Port → Type 0
-LeftBelow c from start ports = (j : ℕ) → slice_get ports j ≡ option_map (λ port. cond (nat_lt j from) (left_at c port) port) (slice_get start j)
-
--- between these numbers c is a live end of none
-abbrev pub NoneBetween : ContextNo → ℕ → ℕ → List Port → Type 0
-NoneBetween c from k ports = (j : ℕ) → from ≤ j → j < k → is_live_end (slice_get ports j) c ≡ false
-
-whole : {A : Type 0} (o : Option A) → option_map (λ x. x) o ≡ o
-whole None = refl
-whole (Some x) = refl
-
-pub left_none : (c : ContextNo) (ports : List Port) → LeftBelow c 0 ports ports
-left_none c ports j = rw (none j) (sym (whole (slice_get ports j)))
-  where
-    none : (j : ℕ) → nat_lt j 0 ≡ false
-    none j = grind (arith, nat_tests)
-
-unseen : (c : ContextNo) (from : ℕ) (start ports : List Port) → LeftBelow c from start ports → (j : ℕ) → from ≤ j → slice_get ports j ≡ slice_get start j
-unseen c from start ports left j h = left j ∙ rw (past j from h) (whole (slice_get start j))
-  where
-    past : (j from : ℕ) → from ≤ j → nat_lt j from ≡ false
-    past j from h = grind (arith, nat_tests)
-
-stays : (c : ContextNo) (o : Option Port) → is_live_end o c ≡ false → option_map (left_at c) o ≡ o
-stays c None h = refl
-stays c (Some port) h = rw h refl
-
-pub left_more : (c : ContextNo) (from k : ℕ) (start ports ports' : List Port) → LeftBelow c from start ports → from ≤ k → is_live_end (slice_get ports k) c ≡ true → NoneBetween c from k ports → IfSome (slice_get ports k) (λ port. ports' ≡ set ports k (without c port)) → LeftBelow c (k + 1) start ports'
-left_more c from k start ports ports' left low live none made = by (slice_get ports k) refl live made
-  where
-    by : (o : Option Port) → slice_get ports k ≡ o → is_live_end o c ≡ true → IfSome o (λ port. ports' ≡ set ports k (without c port)) → LeftBelow c (k + 1) start ports'
-    by None at live made = absurd (false≢true live)
-    by (Some port) at live made = λ j. ap (λ l. slice_get l j) made ∙ here j (k == j) refl
-      where
-        up : (k j : ℕ) → (k == j) ≡ true → nat_lt j (k + 1) ≡ true
-        up k j h = grind (arith, nat_tests)
-
-        more : (j from k : ℕ) → from ≤ k → nat_lt j from ≡ true → nat_lt j (k + 1) ≡ true
-        more j from k h t = grind (arith, nat_tests)
-
-        over : (j from : ℕ) → nat_lt j from ≡ false → from ≤ j
-        over j from t = grind (arith, nat_tests)
-
-        under : (j k : ℕ) → (k == j) ≡ false → nat_lt j (k + 1) ≡ true → j < k
-        under j k s t = grind (arith, nat_tests)
-
-        rest : (j : ℕ) → (k == j) ≡ false → (a : Bool) → nat_lt j from ≡ a → (b : Bool) → nat_lt j (k + 1) ≡ b → option_map (λ p. cond (nat_lt j from) (left_at c p) p) (slice_get start j) ≡ option_map (λ p. cond (nat_lt j (k + 1)) (left_at c p) p) (slice_get start j)
-        rest j apart true a b e = rw (a, more j from k low a) refl
-        rest j apart false a true e =
-            rw (a, e) (whole (slice_get start j) ∙ sym (stays c (slice_get start j) (ap (λ o. is_live_end o c) (sym (unseen c from start ports left j (over j from a))) ∙ none j (over j from a) (under j k apart e))))
-        rest j apart false a false e = rw (a, e) refl
-
-        here : (j : ℕ) (s : Bool) → (k == j) ≡ s → slice_get (set ports k (without c port)) j ≡ option_map (λ p. cond (nat_lt j (k + 1)) (left_at c p) p) (slice_get start j)
-        here j true same =
-            let e : k ≡ j = eqb-true k j same in
-            let was : slice_get start k ≡ Some port = sym (unseen c from start ports left k low) ∙ at in
-            rw (up k j same) (rw (← e) (set_here ports k (without c port) port at ∙ sym (rw was (ap (λ b. Some (cond b (without c port) port)) live))))
-        here j false apart = set_there ports k j (without c port) (other_is k j apart) ∙ left j ∙ rest j apart (nat_lt j from) refl (nat_lt j (k + 1)) refl
-
-pub left_all : (c : ContextNo) (from : ℕ) (start ports : List Port) → LeftBelow c from start ports → ((j : ℕ) → from ≤ j → is_live_end (slice_get ports j) c ≡ false) → ports ≡ map (left_at c) start
-left_all c from start ports left none = read_alike ports (map (left_at c) start) (λ j. left j ∙ by j (nat_lt j from) refl ∙ sym (slice_get-map (left_at c) start j))
-  where
-    over : (j from : ℕ) → nat_lt j from ≡ false → from ≤ j
-    over j from t = grind (arith, nat_tests)
-
-    by : (j : ℕ) (a : Bool) → nat_lt j from ≡ a → option_map (λ p. cond (nat_lt j from) (left_at c p) p) (slice_get start j) ≡ option_map (left_at c) (slice_get start j)
-    by j true a = rw a refl
-    by j false a = rw a (whole (slice_get start j) ∙ sym (stays c (slice_get start j) (ap (λ o. is_live_end o c) (sym (unseen c from start ports left j (over j from a))) ∙ none j (over j from a))))
+use Rattle.wx_id.specs.declared.events.EventKind.{EventKind}
+use Rattle.wx_tables.specs.Ending.{heard, EachQueue}
+use Rattle.wx_tables.specs.Leaving.{in_entry}
 
 -- a range with one more number
 range_more : (n : ℕ) → range_with_len 0 (n + 1) ≡ range_with_len 0 n ++ n ∷ []
@@ -97,78 +25,148 @@ range_more n =
     ∙ map-range_with_len_more (λ (x : ℕ). x) 0 n n (zero-add n)
     ∙ ap (λ l. l ++ n ∷ []) (map-id (range_with_len 0 n))
 
-pub ends_more : (ports : List Port) (c d : ContextNo) (k : ℕ) → ends_told ports c d (k + 1) ≡ ends_told ports c d k ++ end_told ports c d k
-ends_more ports c d k = ap (flat_map (end_told ports c d)) (range_more k) ∙ sym (flat_map_more (end_told ports c d) [] (range_with_len 0 k) k)
+over : (j from : ℕ) → nat_lt j from ≡ false → from ≤ j
+over j from t = grind (arith, nat_tests)
 
-silent : (c d : ContextNo) (o : Option Port) → is_live_end o c ≡ false → hears_end o c d ≡ false
-silent c d None h = refl
-silent c d (Some port) h = rw h refl
+module _ {B : Type 0} (concerned : Option B → Bool) (left : B → B) where
+  -- the list as far as the leave has come
+  abbrev pub LeftBelow : ℕ → List B → List B → Type 0
+  LeftBelow from start xs = (j : ℕ) → slice_get xs j ≡ option_map (λ x. cond (nat_lt j from) (cond (concerned (Some x)) (left x) x) x) (slice_get start j)
 
-pub ends_skip : (ports : List Port) (c d : ContextNo) (from n : ℕ) → NoneBetween c from (from + n) ports → ends_told ports c d (from + n) ≡ ends_told ports c d from
-ends_skip ports c d from zero none = ap (ends_told ports c d) (plus from)
-  where
-    plus : (n : ℕ) → n + 0 ≡ n
-    plus n = omega arith
-ends_skip ports c d from (suc n) none =
-    ap (ends_told ports c d) (plus from n)
-    ∙ ends_more ports c d (from + n)
-    ∙ ap (λ b. ends_told ports c d (from + n) ++ cond b (Disconnected (record { 0 = from + n }) ∷ []) []) (silent c d (slice_get ports (from + n)) (none (from + n) (omega arith) (omega arith)))
-    ∙ append-nil (ends_told ports c d (from + n))
-    ∙ ends_skip ports c d from n (λ j low high. none j low (omega (arith, high)))
-  where
-    plus : (from n : ℕ) → from + suc n ≡ (from + n) + 1
-    plus from n = omega arith
+  -- between these numbers none concerns it
+  abbrev pub NoneBetween : ℕ → ℕ → List B → Type 0
+  NoneBetween from k xs = (j : ℕ) → from ≤ j → j < k → concerned (slice_get xs j) ≡ false
 
-pub ends_between : (ports : List Port) (c d : ContextNo) (from k : ℕ) → from ≤ k → NoneBetween c from k ports → ends_told ports c d k ≡ ends_told ports c d from
-ends_between ports c d from k low none =
-    let n : ℕ = k - from in
-    let e : k ≡ from + n = omega (arith, low) in
-    ap (ends_told ports c d) e ∙ ends_skip ports c d from n (subst (λ (m : ℕ). NoneBetween c from m ports) e none)
+  unseen : (from : ℕ) (start xs : List B) → LeftBelow from start xs → (j : ℕ) → from ≤ j → slice_get xs j ≡ slice_get start j
+  unseen from start xs so_far j h = so_far j ∙ rw (past j from h) (option_map_id (slice_get start j))
+    where
+      past : (j from : ℕ) → from ≤ j → nat_lt j from ≡ false
+      past j from h = grind (arith, nat_tests)
 
-pub told_none : (ports : List Port) (c : ContextNo) (n : EntryNo) (queues : List (List Event)) → EachQueue (told_ends ports c n 0) queues queues
-told_none ports c n queues d = by (slice_get queues d.0)
-  where
-    by : (o : Option (List Event)) → o ≡ option_map (λ queue. queue ++ []) o
-    by None = refl
-    by (Some q) = ap Some (sym (append-nil q))
+  stays : (o : Option B) → concerned o ≡ false → option_map (λ x. cond (concerned (Some x)) (left x) x) o ≡ o
+  stays None h = refl
+  stays (Some x) h = rw h refl
 
-pub told_more : (start ports : List Port) (c : ContextNo) (n : EntryNo) (from : ℕ) (k : ChannelNo) (old mid new : List (List Event)) → LeftBelow c from start ports → from ≤ k.0 → is_live_end (slice_get ports k.0) c ≡ true → NoneBetween c from k.0 ports → EachQueue (told_ends start c n from) old mid → IfSome (slice_get ports k.0) (λ port. EachQueue (told_leave port c (in_entry n (Disconnected k))) mid new) → EachQueue (told_ends start c n (k.0 + 1)) old new
-told_more start ports c n from k old mid new left low live none before after = by (slice_get ports k.0) refl live after
-  where
-    between : NoneBetween c from k.0 start
-    between j l h = ap (λ o. is_live_end o c) (sym (unseen c from start ports left j l)) ∙ none j l h
+  -- one more is left
+  pub left_more : concerned None ≡ false → (from k : ℕ) (start xs xs' : List B) → LeftBelow from start xs → from ≤ k → concerned (slice_get xs k) ≡ true → NoneBetween from k xs → IfSome (slice_get xs k) (λ x. xs' ≡ set xs k (left x)) → LeftBelow (k + 1) start xs'
+  left_more absent from k start xs xs' so_far low live none made = by (slice_get xs k) refl live made
+    where
+      by : (o : Option B) → slice_get xs k ≡ o → concerned o ≡ true → IfSome o (λ x. xs' ≡ set xs k (left x)) → LeftBelow (k + 1) start xs'
+      by None at live made = absurd (false≢true (sym absent ∙ live))
+      by (Some x) at live made = λ j. ap (λ l. slice_get l j) made ∙ here j (k == j) refl
+        where
+          up : (k j : ℕ) → (k == j) ≡ true → nat_lt j (k + 1) ≡ true
+          up k j h = grind (arith, nat_tests)
 
-    by : (o : Option Port) → slice_get ports k.0 ≡ o → is_live_end o c ≡ true → IfSome o (λ port. EachQueue (told_leave port c (in_entry n (Disconnected k))) mid new) → EachQueue (told_ends start c n (k.0 + 1)) old new
-    by None at live after = absurd (false≢true live)
-    by (Some port) at live after = λ d. after d ∙ ap (option_map (told_leave port c (in_entry n (Disconnected k)) d)) (before d) ∙ at_queue d (slice_get old d.0)
+          more : (j from k : ℕ) → from ≤ k → nat_lt j from ≡ true → nat_lt j (k + 1) ≡ true
+          more j from k h t = grind (arith, nat_tests)
+
+          under : (j k : ℕ) → (k == j) ≡ false → nat_lt j (k + 1) ≡ true → j < k
+          under j k s t = grind (arith, nat_tests)
+
+          rest : (j : ℕ) → (k == j) ≡ false → (a : Bool) → nat_lt j from ≡ a → (b : Bool) → nat_lt j (k + 1) ≡ b → option_map (λ p. cond (nat_lt j from) (cond (concerned (Some p)) (left p) p) p) (slice_get start j) ≡ option_map (λ p. cond (nat_lt j (k + 1)) (cond (concerned (Some p)) (left p) p) p) (slice_get start j)
+          rest j apart true a b e = rw (a, more j from k low a) refl
+          rest j apart false a true e =
+              rw (a, e) (option_map_id (slice_get start j) ∙ sym (stays (slice_get start j) (ap concerned (sym (unseen from start xs so_far j (over j from a))) ∙ none j (over j from a) (under j k apart e))))
+          rest j apart false a false e = rw (a, e) refl
+
+          here : (j : ℕ) (s : Bool) → (k == j) ≡ s → slice_get (set xs k (left x)) j ≡ option_map (λ p. cond (nat_lt j (k + 1)) (cond (concerned (Some p)) (left p) p) p) (slice_get start j)
+          here j true same =
+              let e : k ≡ j = eqb-true k j same in
+              let was : slice_get start k ≡ Some x = sym (unseen from start xs so_far k low) ∙ at in
+              rw (up k j same) (rw (← e) (set_here xs k (left x) x at ∙ sym (rw was (ap (λ b. Some (cond b (left x) x)) live))))
+          here j false apart = set_there xs k j (left x) (other_is k j apart) ∙ so_far j ∙ rest j apart (nat_lt j from) refl (nat_lt j (k + 1)) refl
+
+  -- where none is left over, all are left
+  pub left_all : (from : ℕ) (start xs : List B) → LeftBelow from start xs → ((j : ℕ) → from ≤ j → concerned (slice_get xs j) ≡ false) → xs ≡ map (λ x. cond (concerned (Some x)) (left x) x) start
+  left_all from start xs so_far none = read_alike xs (map (λ x. cond (concerned (Some x)) (left x) x) start) (λ j. so_far j ∙ by j (nat_lt j from) refl ∙ sym (slice_get-map (λ x. cond (concerned (Some x)) (left x) x) start j))
+    where
+      by : (j : ℕ) (a : Bool) → nat_lt j from ≡ a → option_map (λ p. cond (nat_lt j from) (cond (concerned (Some p)) (left p) p) p) (slice_get start j) ≡ option_map (λ p. cond (concerned (Some p)) (left p) p) (slice_get start j)
+      by j true a = rw a refl
+      by j false a = rw a (option_map_id (slice_get start j) ∙ sym (stays (slice_get start j) (ap concerned (sym (unseen from start xs so_far j (over j from a))) ∙ none j (over j from a))))
+
+  -- what concerns it is within the list
+  pub live_within : concerned None ≡ false → (from k : ℕ) (start xs : List B) → LeftBelow from start xs → concerned (slice_get xs k) ≡ true → k < length start
+  live_within absent from k start xs so_far live = within start k (λ h. false≢true (sym absent ∙ sym (ap concerned (so_far k ∙ ap (option_map (λ p. cond (nat_lt k from) (cond (concerned (Some p)) (left p) p) p)) h)) ∙ live))
+    where
+      within : (xs : List B) (k : ℕ) → (slice_get xs k ≡ None → ⊥) → k < length xs
+      within [] k h = absurd (h refl)
+      within (x ∷ xs) zero h = omega arith
+      within (x ∷ xs) (suc k) h = let r : k < length xs = within xs k h in omega (arith, r)
+
+  module _ (hears : Option B → ContextNo → Bool) (kind : ℕ → EventKind) where
+    abbrev one_told : List B → ContextNo → ℕ → List EventKind
+    one_told xs d k = cond (hears (slice_get xs k) d) (kind k ∷ []) []
+
+    abbrev all_told : List B → ContextNo → ℕ → List EventKind
+    all_told xs d below = flat_map (one_told xs d) (range_with_len 0 below)
+
+    -- what waits once those below that number are left
+    abbrev pub told_below : List B → EntryNo → ℕ → ContextNo → List Event → List Event
+    told_below xs n below d queue = queue ++ map (in_entry n) (all_told xs d below)
+
+    told_step : (xs : List B) (d : ContextNo) (k : ℕ) → all_told xs d (k + 1) ≡ all_told xs d k ++ one_told xs d k
+    told_step xs d k = ap (flat_map (one_told xs d)) (range_more k) ∙ sym (flat_map_more (one_told xs d) [] (range_with_len 0 k) k)
+
+    told_skip : ((o : Option B) (d : ContextNo) → concerned o ≡ false → hears o d ≡ false) → (xs : List B) (d : ContextNo) (from n : ℕ) → NoneBetween from (from + n) xs → all_told xs d (from + n) ≡ all_told xs d from
+    told_skip silent xs d from zero none = ap (all_told xs d) (plus from)
       where
-        was : slice_get start k.0 ≡ Some port
-        was = sym (unseen c from start ports left k.0 low) ∙ at
+        plus : (n : ℕ) → n + 0 ≡ n
+        plus n = omega arith
+    told_skip silent xs d from (suc n) none =
+        ap (all_told xs d) (plus from n)
+        ∙ told_step xs d (from + n)
+        ∙ ap (λ b. all_told xs d (from + n) ++ cond b (kind (from + n) ∷ []) []) (silent (slice_get xs (from + n)) d (none (from + n) (omega arith) (omega arith)))
+        ∙ append-nil (all_told xs d (from + n))
+        ∙ told_skip silent xs d from n (λ j low high. none j low (omega (arith, high)))
+      where
+        plus : (from n : ℕ) → from + suc n ≡ (from + n) + 1
+        plus from n = omega arith
 
-        told : (d : ContextNo) → map (in_entry n) (end_told start c d k.0) ≡ cond (closes_by port c && is_among (other_side port c) d) (in_entry n (Disconnected k) ∷ []) []
-        told d = ap (λ o. map (in_entry n) (cond (hears_end o c d) (Disconnected (record { 0 = k.0 }) ∷ []) [])) was ∙ ap (λ b. map (in_entry n) (cond (b && closes_by port c && is_among (other_side port c) d) (Disconnected k ∷ []) [])) live ∙ one (closes_by port c) (is_among (other_side port c) d)
+    told_between : ((o : Option B) (d : ContextNo) → concerned o ≡ false → hears o d ≡ false) → (xs : List B) (d : ContextNo) (from k : ℕ) → from ≤ k → NoneBetween from k xs → all_told xs d k ≡ all_told xs d from
+    told_between silent xs d from k low none =
+        let n : ℕ = k - from in
+        let e : k ≡ from + n = omega (arith, low) in
+        ap (all_told xs d) e ∙ told_skip silent xs d from n (subst (λ (m : ℕ). NoneBetween from m xs) e none)
+
+    -- at first nothing is told
+    pub told_none : (xs : List B) (n : EntryNo) (queues : List (List Event)) → EachQueue (told_below xs n 0) queues queues
+    told_none xs n queues d = by (slice_get queues d.0)
+      where
+        by : (o : Option (List Event)) → o ≡ option_map (λ queue. queue ++ []) o
+        by None = refl
+        by (Some q) = ap Some (sym (append-nil q))
+
+    -- what is told of one more
+    pub told_more : concerned None ≡ false → ((o : Option B) (d : ContextNo) → concerned o ≡ false → hears o d ≡ false) → (tells : B → ContextNo → Bool) → ((x : B) (d : ContextNo) → concerned (Some x) ≡ true → hears (Some x) d ≡ tells x d) → (start xs : List B) (n : EntryNo) (from k : ℕ) (old mid new : List (List Event)) → LeftBelow from start xs → from ≤ k → concerned (slice_get xs k) ≡ true → NoneBetween from k xs → EachQueue (told_below start n from) old mid → IfSome (slice_get xs k) (λ x. EachQueue (λ d queue. heard (tells x d) (in_entry n (kind k)) queue) mid new) → EachQueue (told_below start n (k + 1)) old new
+    told_more absent silent tells agree start xs n from k old mid new so_far low live none before after = by (slice_get xs k) refl live after
+      where
+        between : NoneBetween from k start
+        between j l h = ap concerned (sym (unseen from start xs so_far j l)) ∙ none j l h
+
+        by : (o : Option B) → slice_get xs k ≡ o → concerned o ≡ true → IfSome o (λ x. EachQueue (λ d queue. heard (tells x d) (in_entry n (kind k)) queue) mid new) → EachQueue (told_below start n (k + 1)) old new
+        by None at live after = absurd (false≢true (sym absent ∙ live))
+        by (Some x) at live after = λ d. after d ∙ ap (option_map (λ queue. heard (tells x d) (in_entry n (kind k)) queue)) (before d) ∙ at_queue d (slice_get old d.0)
           where
-            one : (a b : Bool) → map (in_entry n) (cond (true && a && b) (Disconnected k ∷ []) []) ≡ cond (a && b) (in_entry n (Disconnected k) ∷ []) []
-            one true true = refl
-            one true false = refl
-            one false b = refl
+            was : slice_get start k ≡ Some x
+            was = sym (unseen from start xs so_far k low) ∙ at
 
-        at_queue : (d : ContextNo) (o : Option (List Event)) → option_map (told_leave port c (in_entry n (Disconnected k)) d) (option_map (told_ends start c n from d) o) ≡ option_map (told_ends start c n (k.0 + 1) d) o
-        at_queue d None = refl
-        at_queue d (Some q) = ap Some (
-            append_assoc q (map (in_entry n) (ends_told start c d from)) (cond (closes_by port c && is_among (other_side port c) d) (in_entry n (Disconnected k) ∷ []) [])
-            ∙ ap (λ l. q ++ l) (ap (λ l. map (in_entry n) (ends_told start c d from) ++ l) (sym (told d))
-            ∙ sym (map-append (in_entry n) (ends_told start c d from) (end_told start c d k.0))
-            ∙ ap (map (in_entry n)) (ap (λ l. l ++ end_told start c d k.0) (sym (ends_between start c d from k.0 low between)) ∙ sym (ends_more start c d k.0))))
+            told : (d : ContextNo) → map (in_entry n) (one_told start d k) ≡ cond (tells x d) (in_entry n (kind k) ∷ []) []
+            told d = ap (λ o. map (in_entry n) (cond (hears o d) (kind k ∷ []) [])) was ∙ ap (λ b. map (in_entry n) (cond b (kind k ∷ []) [])) (agree x d live) ∙ one (tells x d)
+              where
+                one : (a : Bool) → map (in_entry n) (cond a (kind k ∷ []) []) ≡ cond a (in_entry n (kind k) ∷ []) []
+                one true = refl
+                one false = refl
 
-pub told_all : (start ports : List Port) (c : ContextNo) (n : EntryNo) (from : ℕ) (old new : List (List Event)) → LeftBelow c from start ports → from ≤ length start → ((j : ℕ) → from ≤ j → is_live_end (slice_get ports j) c ≡ false) → EachQueue (told_ends start c n from) old new → EachQueue (told_ends start c n (length start)) old new
-told_all start ports c n from old new left low none before d =
-    before d ∙ ap (λ l. option_map (λ queue. queue ++ map (in_entry n) l) (slice_get old d.0)) (sym (ends_between start c d from (length start) low (λ j l h. ap (λ o. is_live_end o c) (sym (unseen c from start ports left j l)) ∙ none j l)))
+            at_queue : (d : ContextNo) (o : Option (List Event)) → option_map (λ queue. heard (tells x d) (in_entry n (kind k)) queue) (option_map (told_below start n from d) o) ≡ option_map (told_below start n (k + 1) d) o
+            at_queue d None = refl
+            at_queue d (Some q) = ap Some (
+                append_assoc q (map (in_entry n) (all_told start d from)) (cond (tells x d) (in_entry n (kind k) ∷ []) [])
+                ∙ ap (λ l. q ++ l) (ap (λ l. map (in_entry n) (all_told start d from) ++ l) (sym (told d))
+                ∙ sym (map-append (in_entry n) (all_told start d from) (one_told start d k))
+                ∙ ap (map (in_entry n)) (ap (λ l. l ++ one_told start d k) (sym (told_between silent start d from k low between)) ∙ sym (told_step start d k))))
 
-pub live_within : (c : ContextNo) (from k : ℕ) (start ports : List Port) → LeftBelow c from start ports → is_live_end (slice_get ports k) c ≡ true → k < length start
-live_within c from k start ports left live = within start k (λ h. false≢true (sym (ap (λ o. is_live_end o c) (left k ∙ ap (option_map (λ p. cond (nat_lt k from) (left_at c p) p)) h)) ∙ live))
-  where
-    within : {A : Type 0} (xs : List A) (k : ℕ) → (slice_get xs k ≡ None → ⊥) → k < length xs
-    within [] k h = absurd (h refl)
-    within (x ∷ xs) zero h = omega arith
-    within (x ∷ xs) (suc k) h = let r : k < length xs = within xs k h in omega (arith, r)
+    -- what is told of all
+    pub told_all : ((o : Option B) (d : ContextNo) → concerned o ≡ false → hears o d ≡ false) → (start xs : List B) (n : EntryNo) (from : ℕ) (old new : List (List Event)) → LeftBelow from start xs → from ≤ length start → ((j : ℕ) → from ≤ j → concerned (slice_get xs j) ≡ false) → EachQueue (told_below start n from) old new → EachQueue (told_below start n (length start)) old new
+    told_all silent start xs n from old new so_far low none before d =
+        before d ∙ ap (λ l. option_map (λ queue. queue ++ map (in_entry n) l) (slice_get old d.0)) (sym (told_between silent start d from (length start) low (λ j l h. ap concerned (sym (unseen from start xs so_far j l)) ∙ none j l)))

@@ -12,8 +12,8 @@ use Rattle.wx_tables.specs.State.{owed_in}
 abbrev pub other_side : Port → ContextNo → List ContextNo
 other_side port c = cond (same_context port.opener c) port.live (port.opener ∷ [])
 
--- a mailbox when a channel ends: a live end that hears of it is told, in the place that was kept, and another gives that
--- place up
+-- a mailbox when a channel ends: a live end that hears of it is told, in the place that was kept, and another gives it
+-- up
 abbrev pub ended : Bool → Bool → Event → MailboxState → MailboxState
 ended live heard e b = cond live (cond heard (paid e b) (forgiven b)) b
 

@@ -1,4 +1,5 @@
--- Channels, requests and what waits for each context, as contracts see them, and the places that are kept for what may still come.
+-- Channels, requests and what waits for each context, as contracts see them, and the places that are kept for what may
+-- still come.
 use Rattle.std.specs.Prelude.{◌≡◌, ℕ, ◌+◌, List, map, not, ◌&&◌, cond, Option, Some, None, slice_get}
 use Rattle.std.specs.List.{sum_by}
 use Rattle.wx_id.specs.declared.numbers.ContextNo.{ContextNo}

@@ -23,8 +23,10 @@ pub fn settle(
     requires owed { AreOwed ports.now requests.old boxes.old.items }
     requires unsettled { IsTrue (is_unsettled_at (slice_get requests.old r.0)) }
     ensures owed { AreOwed ports.now requests.new boxes.new.items }
-    ensures requests { IfSome (slice_get requests.old r.0) (λ request. requests.new ≡ slice_set requests.old r.0 (settled request)) }
-    ensures queues { IfSome (slice_get requests.old r.0) (λ request. EachQueue (told_asker true request e) (queues_in boxes.old.items) (queues_in boxes.new.items)) }
+    ensures requests { IfSome (slice_get requests.old r.0)
+        (λ request. requests.new ≡ slice_set requests.old r.0 (settled request)) }
+    ensures queues { IfSome (slice_get requests.old r.0)
+        (λ request. EachQueue (told_asker true request e) (queues_in boxes.old.items) (queues_in boxes.new.items)) }
 {
     let _ = ports;
     let asker = requests.asker(r);
@@ -44,7 +46,8 @@ fn leave_own(
     requires unsettled { IsTrue (is_unsettled_at (slice_get requests.old r.0)) }
     requires asker { IfSome (slice_get requests.old r.0) (λ request. c ≡ request.asker) }
     ensures owed { AreOwed ports.now requests.new boxes.new.items }
-    ensures requests { IfSome (slice_get requests.old r.0) (λ request. requests.new ≡ slice_set requests.old r.0 (settled request)) }
+    ensures requests { IfSome (slice_get requests.old r.0)
+        (λ request. requests.new ≡ slice_set requests.old r.0 (settled request)) }
     ensures queues { queues_in boxes.new.items ≡ queues_in boxes.old.items }
 {
     let _ = ports;
@@ -64,8 +67,11 @@ pub fn drop_receiver(
     requires owed { AreOwed ports.now requests.old boxes.old.items }
     requires standing { standing_at (slice_get requests.old r.0) c ≡ Open }
     ensures owed { AreOwed ports.now requests.new boxes.new.items }
-    ensures requests { IfSome (slice_get requests.old r.0) (λ request. requests.new ≡ slice_set requests.old r.0 (without c request)) }
-    ensures queues { IfSome (slice_get requests.old r.0) (λ request. EachQueue (told_asker (without c request).is_settled request e) (queues_in boxes.old.items) (queues_in boxes.new.items)) }
+    ensures requests { IfSome (slice_get requests.old r.0)
+        (λ request. requests.new ≡ slice_set requests.old r.0 (without c request)) }
+    ensures queues { IfSome (slice_get requests.old r.0)
+        (λ request. EachQueue (told_asker (without c request).is_settled request e)
+        (queues_in boxes.old.items) (queues_in boxes.new.items)) }
 {
     let _ = ports;
     let asker = requests.asker(r);
@@ -86,8 +92,11 @@ fn leave_request(
     requires owed { AreOwed ports.now requests.old boxes.old.items }
     requires concerns { IsTrue (concerns_at (slice_get requests.old r.0) c) }
     ensures owed { AreOwed ports.now requests.new boxes.new.items }
-    ensures requests { IfSome (slice_get requests.old r.0) (λ request. requests.new ≡ slice_set requests.old r.0 (request_left c request)) }
-    ensures queues { IfSome (slice_get requests.old r.0) (λ request. EachQueue (told_asker (closes_request request c) request e) (queues_in boxes.old.items) (queues_in boxes.new.items)) }
+    ensures requests { IfSome (slice_get requests.old r.0)
+        (λ request. requests.new ≡ slice_set requests.old r.0 (request_left c request)) }
+    ensures queues { IfSome (slice_get requests.old r.0)
+        (λ request. EachQueue (told_asker (closes_request request c) request e)
+        (queues_in boxes.old.items) (queues_in boxes.new.items)) }
 {
     let asker = requests.asker(r);
     if asker.0 == c.0 {
@@ -111,7 +120,8 @@ pub fn leave_requests(
     requires owed { AreOwed ports.now requests.old boxes.old.items }
     ensures owed { AreOwed ports.now requests.new boxes.new.items }
     ensures requests { requests.new ≡ map (request_left_at c) requests.old }
-    ensures queues { EachQueue (told_outcomes requests.old c n (length requests.old)) (queues_in boxes.old.items) (queues_in boxes.new.items) }
+    ensures queues { EachQueue (told_outcomes requests.old c n (length requests.old))
+        (queues_in boxes.old.items) (queues_in boxes.new.items) }
 {
     let count = requests.count();
     let mut from: u64 = 0;

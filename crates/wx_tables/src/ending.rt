@@ -46,7 +46,8 @@ fn tell_end(ports: &Ports, boxes: &mut Vec<Mailbox>, k: ChannelNo, c: ContextNo,
     requires there { k.0 < length ports.now }
     requires is_open { IsTrue (is_open_port (slice_get ports.now k.0)) }
     requires owed { IfSome (slice_get ports.now k.0) (λ port. EndsOwed port boxes.old.items) }
-    ensures { IfSome (slice_get ports.now k.0) (λ port. Ended port (other_side port c) e boxes.old.items boxes.new.items) }
+    ensures { IfSome (slice_get ports.now k.0)
+        (λ port. Ended port (other_side port c) e boxes.old.items boxes.new.items) }
 {
     let opener = ports.opener(k);
     if opener.0 == c.0 {
@@ -69,7 +70,8 @@ pub fn end_channel(
     requires is_open { IsTrue (is_open_port (slice_get ports.old k.0)) }
     ensures owed { AreOwed ports.new requests.now boxes.new.items }
     ensures ports { IfSome (slice_get ports.old k.0) (λ port. ports.new ≡ slice_set ports.old k.0 (closed port)) }
-    ensures queues { IfSome (slice_get ports.old k.0) (λ port. EachQueue (told_end port c e) (queues_in boxes.old.items) (queues_in boxes.new.items)) }
+    ensures queues { IfSome (slice_get ports.old k.0)
+        (λ port. EachQueue (told_end port c e) (queues_in boxes.old.items) (queues_in boxes.new.items)) }
 {
     let _ = requests;
     tell_end(ports, boxes, k, c, e);
@@ -119,7 +121,8 @@ pub fn part(
     requires live { IsTrue (is_live_end (slice_get ports.old k.0) c) }
     ensures owed { AreOwed ports.new requests.now boxes.new.items }
     ensures ports { IfSome (slice_get ports.old k.0) (λ port. ports.new ≡ slice_set ports.old k.0 (closed port)) }
-    ensures queues { IfSome (slice_get ports.old k.0) (λ port. EachQueue (parted port c k.0 e) (queues_in boxes.old.items) (queues_in boxes.new.items)) }
+    ensures queues { IfSome (slice_get ports.old k.0)
+        (λ port. EachQueue (parted port c k.0 e) (queues_in boxes.old.items) (queues_in boxes.new.items)) }
 {
     end_channel(ports, requests, boxes, k, c, e);
     drop_at(boxes, c, k);

@@ -55,7 +55,8 @@ fn leave_channel(
     requires live { IsTrue (is_live_end (slice_get ports.old k.0) c) }
     ensures owed { AreOwed ports.new requests.now boxes.new.items }
     ensures ports { IfSome (slice_get ports.old k.0) (λ port. ports.new ≡ slice_set ports.old k.0 (without c port)) }
-    ensures queues { IfSome (slice_get ports.old k.0) (λ port. EachQueue (told_leave port c e) (queues_in boxes.old.items) (queues_in boxes.new.items)) }
+    ensures queues { IfSome (slice_get ports.old k.0)
+        (λ port. EachQueue (told_leave port c e) (queues_in boxes.old.items) (queues_in boxes.new.items)) }
 {
     if closes(ports, k, c) {
         end_channel(ports, requests, boxes, k, c, e)
@@ -75,7 +76,8 @@ pub fn leave_channels(
     requires owed { AreOwed ports.old requests.now boxes.old.items }
     ensures owed { AreOwed ports.new requests.now boxes.new.items }
     ensures ports { ports.new ≡ map (left_at c) ports.old }
-    ensures queues { EachQueue (told_ends ports.old c n (length ports.old)) (queues_in boxes.old.items) (queues_in boxes.new.items) }
+    ensures queues { EachQueue (told_ends ports.old c n (length ports.old))
+        (queues_in boxes.old.items) (queues_in boxes.new.items) }
 {
     let count = ports.count();
     let mut from: u64 = 0;

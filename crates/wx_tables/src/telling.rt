@@ -24,7 +24,8 @@ fn tell_all(
     requires distinct { IsTrue (are_distinct to.now) }
     requires there { AreThere to.now (queues_in boxes.old.items) }
     ensures owed { AreOwed ports.now requests.now boxes.new.items }
-    ensures queues { OnOk result (EachQueue (told_each to.now e) (queues_in boxes.old.items) (queues_in boxes.new.items)) }
+    ensures queues { OnOk result (EachQueue (told_each to.now e)
+        (queues_in boxes.old.items) (queues_in boxes.new.items)) }
     ensures same { OnErr result (queues_in boxes.new.items ≡ queues_in boxes.old.items) }
 {
     let _ = ports;
@@ -47,7 +48,8 @@ pub fn hear(
     requires owed { AreOwed ports.now requests.now boxes.old.items }
     requires is_open { IsTrue (is_open_port (slice_get ports.now k.0)) }
     ensures owed { AreOwed ports.now requests.now boxes.new.items }
-    ensures queues { OnOk result (IfSome (slice_get ports.now k.0) (λ port. EachQueue (told_opener port e) (queues_in boxes.old.items) (queues_in boxes.new.items))) }
+    ensures queues { OnOk result (IfSome (slice_get ports.now k.0)
+        (λ port. EachQueue (told_opener port e) (queues_in boxes.old.items) (queues_in boxes.new.items))) }
     ensures same { OnErr result (queues_in boxes.new.items ≡ queues_in boxes.old.items) }
 {
     let opener = ports.opener(k);
@@ -65,7 +67,8 @@ fn tell_live(
     requires owed { AreOwed ports.now requests.now boxes.old.items }
     requires is_open { IsTrue (is_open_port (slice_get ports.now k.0)) }
     ensures owed { AreOwed ports.now requests.now boxes.new.items }
-    ensures queues { OnOk result (IfSome (slice_get ports.now k.0) (λ port. EachQueue (told_each port.live e) (queues_in boxes.old.items) (queues_in boxes.new.items))) }
+    ensures queues { OnOk result (IfSome (slice_get ports.now k.0)
+        (λ port. EachQueue (told_each port.live e) (queues_in boxes.old.items) (queues_in boxes.new.items))) }
     ensures same { OnErr result (queues_in boxes.new.items ≡ queues_in boxes.old.items) }
 {
     let live = ports.live(k);
@@ -84,7 +87,8 @@ pub fn post(
     requires owed { AreOwed ports.now requests.now boxes.old.items }
     requires is_open { IsTrue (is_open_port (slice_get ports.now k.0)) }
     ensures owed { AreOwed ports.now requests.now boxes.new.items }
-    ensures queues { OnOk result (IfSome (slice_get ports.now k.0) (λ port. EachQueue (told_end port c e) (queues_in boxes.old.items) (queues_in boxes.new.items))) }
+    ensures queues { OnOk result (IfSome (slice_get ports.now k.0)
+        (λ port. EachQueue (told_end port c e) (queues_in boxes.old.items) (queues_in boxes.new.items))) }
     ensures same { OnErr result (queues_in boxes.new.items ≡ queues_in boxes.old.items) }
 {
     let opener = ports.opener(k);
