@@ -5,7 +5,8 @@ use Rattle.std.specs.Option.{option_map, IsSomeAnd}
 use Rattle.std.specs.List.{sum_by}
 use Rattle.std.proofs.lemmas.List.Sums.{sum_by-set}
 use Rattle.std.proofs.lemmas.Option.{same_Some, slice_get-map, slice_get_within, get_or_from_slice_get}
-use Rattle.std.proofs.lemmas.Bool.{and_parts, false≢true, eqb-true}
+use Rattle.std.proofs.Math.Bool.{or-false}
+use Rattle.std.proofs.lemmas.Bool.{and_parts, false≢true, eqb-true, ne_eqb}
 use Rattle.std.proofs.lemmas.Bool.Decides.{nat_tests}
 use Rattle.wx_id.specs.declared.numbers.ContextNo.{ContextNo}
 use Rattle.wx_id.specs.declared.events.Event.{Event}
@@ -15,15 +16,11 @@ use Rattle.wx_id.specs.Contexts.{is_among, same_context}
 use Rattle.wx_mailbox.specs.Mailbox.{MailboxState, paid}
 use Rattle.wx_id.specs.ByContext.{Changed, EachHas}
 use Rattle.wx_tables.proofs.OwedLater.{keeps}
-use Rattle.wx_id.proofs.ListLemmas.{set_here}
+use Rattle.wx_id.proofs.ListLemmas.{set_here, set_same}
 use Rattle.wx_one_shot.specs.declared.requests.Standing.TheVariants.{Open, Late, Stranger}
 use Rattle.wx_tables.specs.State.{owes, awaits, due, owed_in, AreOwed, queue_in, queues_in}
 use Rattle.wx_tables.specs.Ending.{heard, EachQueue}
 use Rattle.wx_tables.specs.Asking.{told_asker, request_left, closes_request}
-
-one : (s : Bool) → (s || false) ≡ true → s ≡ true
-one true h = refl
-one false h = h
 
 -- one request is changed
 pub awaits_set : (requests : List Request) (r : ℕ) (request new : Request) (d : ContextNo) → slice_get requests r ≡ Some request → sum_by (awaits d) (set requests r new) + awaits d request ≡ sum_by (awaits d) requests + awaits d new
@@ -51,7 +48,7 @@ asker_owed ports requests boxes r asker owed unsettled is d among = by (slice_ge
     by : (o : Option Request) → slice_get requests r ≡ o → is_unsettled_at o ≡ true → IfSome o (λ request. asker ≡ request.asker) → IsSomeAnd (slice_get boxes d.0) (λ b. 0 < b.owed)
     by None at unsettled is = absurd (false≢true unsettled)
     by (Some request) at unsettled is =
-        let here : (request.asker.0 == d.0) ≡ true = ap (λ (c : ContextNo). c.0 == d.0) (sym is) ∙ one (same_context asker d) among in
+        let here : (request.asker.0 == d.0) ≡ true = ap (λ (c : ContextNo). c.0 == d.0) (sym is) ∙ sym (or-false (same_context asker d)) ∙ among in
         let mine : awaits d request ≡ 1 = awaits_open request d (unsettled_is request unsettled) ∙ ap (λ b. cond {A = ℕ} b 1 0) here in
         let none : awaits d (settled request) ≡ 0 = refl in
         let sums : sum_by (awaits d) (set requests r (settled request)) + awaits d request ≡ sum_by (awaits d) requests + awaits d (settled request) = awaits_set requests r request (settled request) d at in
@@ -149,63 +146,6 @@ pub paid_if : (o : Option Request) (asker : ContextNo) (f : Request → Request)
 paid_if None asker f e boxes boxes' h is changed = tt
 paid_if (Some request) asker f e boxes boxes' h is changed = queues_paid (Some request) asker (f request).is_settled e boxes boxes' h is changed
 
--- one who is concerned by a request leaves it
-pub concerned_unsettled : (o : Option Request) (c : ContextNo) → concerns_at o c ≡ true → is_unsettled_at o ≡ true
-concerned_unsettled None c h = absurd (false≢true h)
-concerned_unsettled (Some request) c h = (and_parts (not request.is_settled) ((request.asker.0 == c.0) || is_among request.still_open c) h).0
-
-pub own_asker : (o : Option Request) (c asker : ContextNo) → IfSome o (λ request. asker ≡ request.asker) → asker.0 ≡ c.0 → IfSome o (λ request. c ≡ request.asker)
-own_asker None c asker is same = tt
-own_asker (Some request) c asker is same = ap (λ (n : ℕ). record { 0 = n }) (sym same) ∙ is
-
-self : (n : ℕ) → (n == n) ≡ true
-self n = grind (arith, nat_tests)
-
-own_left : (request : Request) (c : ContextNo) → c ≡ request.asker → settled request ≡ request_left c request
-own_left request c h = rw (← h) (rw (self c.0) refl)
-
-own_quiet : (request : Request) (c : ContextNo) → c ≡ request.asker → closes_request request c ≡ false
-own_quiet request c h = rw (← h) (rw (self c.0) refl)
-
-pub own_rows : (o : Option Request) (requests requests' : List Request) (r : ℕ) (c asker : ContextNo) → IfSome o (λ request. asker ≡ request.asker) → asker.0 ≡ c.0 → IfSome o (λ request. requests' ≡ set requests r (settled request)) → IfSome o (λ request. requests' ≡ set requests r (request_left c request))
-own_rows None requests requests' r c asker is same made = tt
-own_rows (Some request) requests requests' r c asker is same made = made ∙ ap (set requests r) (own_left request c (own_asker (Some request) c asker is same))
-
-pub own_queues : (o : Option Request) (c asker : ContextNo) (e : Event) (queues queues' : List (List Event)) → IfSome o (λ request. asker ≡ request.asker) → asker.0 ≡ c.0 → queues' ≡ queues → IfSome o (λ request. EachQueue (told_asker (closes_request request c) request e) queues queues')
-own_queues o c asker e queues queues' is same stays = rw stays (queues_quiet o (λ request. closes_request request c) e queues (by o is))
-  where
-    by : (o : Option Request) → IfSome o (λ request. asker ≡ request.asker) → IfSome o (λ request. closes_request request c ≡ false)
-    by None is = tt
-    by (Some request) is = own_quiet request c (own_asker (Some request) c asker is same)
-
--- what an open receiver that is not the asker leaves
-open_among : (request : Request) (c : ContextNo) → standing_at (Some request) c ≡ Open → is_among request.receivers c ≡ true
-open_among request c h = by (is_among request.receivers c) refl h
-  where
-    by : (a : Bool) → is_among request.receivers c ≡ a → cond a (cond (may_reply request c) Open Late) Stranger ≡ Open → a ≡ true
-    by true e h = refl
-    by false e h = absurd (cc)
-
-apart_is : (m n : ℕ) → (m ≡ n → ⊥) → (m == n) ≡ false
-apart_is m n h = by (m == n) refl
-  where
-    by : (b : Bool) → (m == n) ≡ b → b ≡ false
-    by true e = absurd (h (eqb-true m n e))
-    by false e = refl
-
-pub open_rows : (o : Option Request) (requests requests' : List Request) (r : ℕ) (c asker : ContextNo) → IfSome o (λ request. asker ≡ request.asker) → (asker.0 ≡ c.0 → ⊥) → standing_at o c ≡ Open → IfSome o (λ request. requests' ≡ set requests r (without c request)) → IfSome o (λ request. requests' ≡ set requests r (request_left c request))
-open_rows None requests requests' r c asker is other stands made = tt
-open_rows (Some request) requests requests' r c asker is other stands made =
-    let differs : (request.asker.0 == c.0) ≡ false = ap (λ (a : ContextNo). a.0 == c.0) (sym is) ∙ apart_is asker.0 c.0 other in
-    made ∙ ap (set requests r) (sym (rw (differs, open_among request c stands) refl))
-
-pub open_queues : (o : Option Request) (c asker : ContextNo) (e : Event) (queues queues' : List (List Event)) → IfSome o (λ request. asker ≡ request.asker) → (asker.0 ≡ c.0 → ⊥) → standing_at o c ≡ Open → IfSome o (λ request. EachQueue (told_asker (without c request).is_settled request e) queues queues') → IfSome o (λ request. EachQueue (told_asker (closes_request request c) request e) queues queues')
-open_queues None c asker e queues queues' is other stands told = tt
-open_queues (Some request) c asker e queues queues' is other stands told =
-    let differs : (request.asker.0 == c.0) ≡ false = ap (λ (a : ContextNo). a.0 == c.0) (sym is) ∙ apart_is asker.0 c.0 other in
-    let same : closes_request request c ≡ (without c request).is_settled = rw (differs, open_among request c stands) refl in
-    λ d. told d ∙ ap (λ t. option_map (λ queue. heard (t && (request.asker.0 == d.0)) e queue) (slice_get queues d.0)) (sym same)
-
 -- one who may reply, and is neither asker nor receiver, leaves the request as it is
 stranger_is : (request : Request) (c : ContextNo) → concerns_at (Some request) c ≡ true → (request.asker.0 == c.0) ≡ false → (standing_at (Some request) c ≡ Open → ⊥) → is_among request.receivers c ≡ false
 stranger_is request c h differs not_open =
@@ -217,18 +157,13 @@ stranger_is request c h differs not_open =
     by false e u s = refl
     by true e u s = absurd (not_open (rw (e, u, s) refl))
 
-set_same : (requests : List Request) (r : ℕ) (request : Request) → slice_get requests r ≡ Some request → set requests r request ≡ requests
-set_same [] r request h = refl
-set_same (x ∷ xs) zero request h = ap (λ z. z ∷ xs) (sym (same_Some x request h))
-set_same (x ∷ xs) (suc r) request h = ap (λ l. x ∷ l) (set_same xs r request h)
-
 pub other_rows : (requests : List Request) (r : ℕ) (c asker : ContextNo) → concerns_at (slice_get requests r) c ≡ true → IfSome (slice_get requests r) (λ request. asker ≡ request.asker) → (asker.0 ≡ c.0 → ⊥) → (standing_at (slice_get requests r) c ≡ Open → ⊥) → IfSome (slice_get requests r) (λ request. requests ≡ set requests r (request_left c request))
 other_rows requests r c asker h is other not_open = by (slice_get requests r) refl h is not_open
   where
     by : (o : Option Request) → slice_get requests r ≡ o → concerns_at o c ≡ true → IfSome o (λ request. asker ≡ request.asker) → (standing_at o c ≡ Open → ⊥) → IfSome o (λ request. requests ≡ set requests r (request_left c request))
     by None at h is not_open = tt
     by (Some request) at h is not_open =
-        let differs : (request.asker.0 == c.0) ≡ false = ap (λ (a : ContextNo). a.0 == c.0) (sym is) ∙ apart_is asker.0 c.0 other in
+        let differs : (request.asker.0 == c.0) ≡ false = ap (λ (a : ContextNo). a.0 == c.0) (sym is) ∙ ne_eqb asker.0 c.0 other in
         sym (ap (set requests r) (rw (differs, stranger_is request c h differs not_open) refl) ∙ set_same requests r request at)
 
 pub other_queues : (o : Option Request) (c asker : ContextNo) (e : Event) (queues : List (List Event)) → concerns_at o c ≡ true → IfSome o (λ request. asker ≡ request.asker) → (asker.0 ≡ c.0 → ⊥) → (standing_at o c ≡ Open → ⊥) → IfSome o (λ request. EachQueue (told_asker (closes_request request c) request e) queues queues)
@@ -237,5 +172,5 @@ other_queues o c asker e queues h is other not_open = queues_quiet o (λ request
     by : (o : Option Request) → concerns_at o c ≡ true → IfSome o (λ request. asker ≡ request.asker) → (standing_at o c ≡ Open → ⊥) → IfSome o (λ request. closes_request request c ≡ false)
     by None h is not_open = tt
     by (Some request) h is not_open =
-        let differs : (request.asker.0 == c.0) ≡ false = ap (λ (a : ContextNo). a.0 == c.0) (sym is) ∙ apart_is asker.0 c.0 other in
+        let differs : (request.asker.0 == c.0) ≡ false = ap (λ (a : ContextNo). a.0 == c.0) (sym is) ∙ ne_eqb asker.0 c.0 other in
         rw (differs, stranger_is request c h differs not_open) refl

@@ -2,6 +2,7 @@
 use Rattle.std.proofs.Common.{◌≡◌, ℕ, ◌<◌, List, [], ◌∷◌, refl, ap, sym, ◌∙◌, Bool, true, false, cond}
 use Rattle.std.specs.Prelude.{Option, Some, None, IfSome, slice_get, ◌||◌, ◌&&◌}
 use Rattle.std.specs.Option.{option_map, IsSomeAnd}
+use Rattle.std.proofs.Math.Bool.{or-false}
 use Rattle.std.proofs.lemmas.Bool.{false≢true, true≢false, false_from_ne_true, eqb-true}
 use Rattle.wx_id.specs.declared.numbers.ContextNo.{ContextNo}
 use Rattle.wx_id.specs.declared.events.Event.{Event}
@@ -45,11 +46,7 @@ pub opener_apart : (o : Option Port) (opener : ContextNo) → IfSome o IsSound �
 opener_apart None opener sound is d among = refl
 opener_apart (Some port) opener sound is d among = false_from_ne_true _ (λ h.
     let here : is_among port.receivers d ≡ true = sound.within d h in
-    false≢true (sym sound.opener ∙ ap (λ (n : ℕ). is_among port.receivers (record { 0 = n })) (ap (λ (c : ContextNo). c.0) (sym is) ∙ eqb-true opener.0 d.0 (one (same_context opener d) among)) ∙ here))
-  where
-    one : (s : Bool) → (s || false) ≡ true → s ≡ true
-    one true h = refl
-    one false h = h
+    false≢true (sym sound.opener ∙ ap (λ (n : ℕ). is_among port.receivers (record { 0 = n })) (ap (λ (c : ContextNo). c.0) (sym is) ∙ eqb-true opener.0 d.0 (sym (or-false (same_context opener d)) ∙ among)) ∙ here))
 
 pub receivers_apart : (o : Option Port) (opener : ContextNo) → IfSome o IsSound → IfSome o (λ port. opener ≡ port.opener) → (d : ContextNo) → is_among (live_of o) d ≡ true → is_among (opener ∷ []) d ≡ false
 receivers_apart o opener sound is d among = false_from_ne_true _ (λ h. false≢true (sym (opener_apart o opener sound is d h) ∙ among))

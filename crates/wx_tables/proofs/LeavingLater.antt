@@ -4,6 +4,7 @@ use Rattle.std.specs.Prelude.{Option, Some, None, IfSome, slice_get, filter, ◌
 use Rattle.std.specs.Option.{option_map, IsSomeAnd}
 use Rattle.std.specs.List.{sum_by}
 use Rattle.std.proofs.lemmas.Option.{slice_get-map}
+use Rattle.std.proofs.Math.Bool.{or-false}
 use Rattle.std.proofs.lemmas.Bool.{and_parts, not-true, false≢true, true≢false, eqb-true}
 use Rattle.std.proofs.lemmas.Bool.Decides.{nat_tests}
 use Rattle.wx_id.proofs.ListLemmas.{read_alike}
@@ -65,18 +66,6 @@ pub closes_else : (o : Option Port) (c opener : ContextNo) (live : List ContextN
 closes_else None c opener live b sound is_live is lives other h = tt
 closes_else (Some port) c opener live b sound is_live is lives other h =
     h ∙ ap (λ l. length l == 1) lives ∙ closes_is port c sound is_live (ap (λ (o : ContextNo). same_context o c) (sym is) ∙ other)
-
--- the channel that closes is closed, the one that stays has one live end less
-pub without_closed : (port : Port) (c : ContextNo) → closes_by port c ≡ true → port.is_open ≡ true → without c port ≡ closed port
-without_closed port c h open_now = by (same_context port.opener c) h
-  where
-    lives : (xs : List ContextNo) → not (with_live port xs).is_open ≡ true → with_live port xs ≡ closed port
-    lives [] h = refl
-    lives (x ∷ xs) h = absurd (false≢true (sym (ap not open_now) ∙ h))
-
-    by : (s : Bool) → not ((if s then closed port else with_live port (filter (is_other c) port.live))).is_open ≡ true → (if s then closed port else with_live port (filter (is_other c) port.live)) ≡ closed port
-    by true h = refl
-    by false h = lives (filter (is_other c) port.live) h
 
 abbrev fewer : ContextNo → Port → Port
 fewer c port = record { opener = port.opener; receivers = port.receivers; live = filter (is_other c) port.live; is_open = port.is_open }
@@ -166,13 +155,9 @@ owed_left ports ports' requests boxes boxes' k c owed live stays changed made = 
 pub own_owed : (ports : List Port) (requests : List Request) (boxes : List MailboxState) (k : ℕ) (c : ContextNo) → AreOwed ports requests boxes → is_live_end (slice_get ports k) c ≡ true → EachHas (λ b. 0 < b.owed) (c ∷ []) boxes
 own_owed ports requests boxes k c owed live d among = by (slice_get ports k) live (ends_owed ports requests boxes k owed)
   where
-    one : (s : Bool) → (s || false) ≡ true → s ≡ true
-    one true h = refl
-    one false h = h
-
     by : (o : Option Port) → is_live_end o c ≡ true → IfSome o (λ port. EndsOwed port boxes) → IsSomeAnd (slice_get boxes d.0) (λ b. 0 < b.owed)
     by None live owed = absurd (false≢true live)
-    by (Some port) live owed = owed d (ap (λ (n : ℕ). is_live_end (Some port) (record { 0 = n })) (sym (eqb-true c.0 d.0 (one (same_context c d) among))) ∙ live)
+    by (Some port) live owed = owed d (ap (λ (n : ℕ). is_live_end (Some port) (record { 0 = n })) (sym (eqb-true c.0 d.0 (sym (or-false (same_context c d)) ∙ among))) ∙ live)
 
 -- who gives a place up keeps what waits
 pub queues_same : (to : List ContextNo) (boxes boxes' : List MailboxState) → Changed forgiven to boxes boxes' → queues_in boxes' ≡ queues_in boxes
@@ -182,27 +167,6 @@ queues_same to boxes boxes' changed = read_alike (queues_in boxes') (queues_in b
     by s None = refl
     by true (Some b) = refl
     by false (Some b) = refl
-
-pub ports_ended : (ports ports' : List Port) (k : ℕ) (c : ContextNo) → is_live_end (slice_get ports k) c ≡ true → IfSome (slice_get ports k) (λ port. true ≡ closes_by port c) → IfSome (slice_get ports k) (λ port. ports' ≡ set ports k (closed port)) → IfSome (slice_get ports k) (λ port. ports' ≡ set ports k (without c port))
-ports_ended ports ports' k c live closes changed = by (slice_get ports k) live closes changed
-  where
-    by : (o : Option Port) → is_live_end o c ≡ true → IfSome o (λ port. true ≡ closes_by port c) → IfSome o (λ port. ports' ≡ set ports k (closed port)) → IfSome o (λ port. ports' ≡ set ports k (without c port))
-    by None live closes changed = tt
-    by (Some port) live closes changed =
-        let parts : (port.is_open ≡ true) × ((same_context port.opener c || is_among port.live c) ≡ true) = and_parts _ _ live in
-        changed ∙ ap (set ports k) (sym (without_closed port c (sym closes) parts.0))
-
-pub leave_told : (o : Option Port) (c : ContextNo) (e : Event) (old new : List (List Event)) → IfSome o (λ port. true ≡ closes_by port c) → IfSome o (λ port. EachQueue (told_end port c e) old new) → IfSome o (λ port. EachQueue (told_leave port c e) old new)
-leave_told None c e old new closes told = tt
-leave_told (Some port) c e old new closes told = λ d. told d ∙ ap (λ b. option_map (λ queue. heard (b && is_among (other_side port c) d) e queue) (slice_get old d.0)) closes
-
-pub leave_quiet : (o : Option Port) (c : ContextNo) (e : Event) (old new : List (List Event)) → IfSome o (λ port. false ≡ closes_by port c) → new ≡ old → IfSome o (λ port. EachQueue (told_leave port c e) old new)
-leave_quiet None c e old new closes same = tt
-leave_quiet (Some port) c e old new closes same = λ d. ap (λ l. slice_get l d.0) same ∙ by (slice_get old d.0) ∙ ap (λ b. option_map (λ queue. heard (b && is_among (other_side port c) d) e queue) (slice_get old d.0)) closes
-  where
-    by : (o : Option (List Event)) → o ≡ option_map (λ queue. queue ++ []) o
-    by None = refl
-    by (Some q) = ap Some (sym (append-nil q))
 
 -- one change of the queues after another
 pub queues_left : (ports : List Port) (requests : List Request) (c : ContextNo) (n : EntryNo) (old mid new : List (List Event)) → EachQueue (told_ends ports c n (length ports)) old mid → EachQueue (told_outcomes requests c n (length requests)) mid new → EachQueue (told_left ports requests c n) old new

@@ -130,13 +130,6 @@ module _ {B : Type 0} (concerned : Option B → Bool) (left : B → B) where
         ap (all_told xs d) e ∙ told_skip silent xs d from n (subst (λ (m : ℕ). NoneBetween from m xs) e none)
 
     -- at first nothing is told
-    pub told_none : (xs : List B) (n : EntryNo) (queues : List (List Event)) → EachQueue (told_below xs n 0) queues queues
-    told_none xs n queues d = by (slice_get queues d.0)
-      where
-        by : (o : Option (List Event)) → o ≡ option_map (λ queue. queue ++ []) o
-        by None = refl
-        by (Some q) = ap Some (sym (append-nil q))
-
     -- what is told of one more
     pub told_more : concerned None ≡ false → ((o : Option B) (d : ContextNo) → concerned o ≡ false → hears o d ≡ false) → (tells : B → ContextNo → Bool) → ((x : B) (d : ContextNo) → concerned (Some x) ≡ true → hears (Some x) d ≡ tells x d) → (start xs : List B) (n : EntryNo) (from k : ℕ) (old mid new : List (List Event)) → LeftBelow from start xs → from ≤ k → concerned (slice_get xs k) ≡ true → NoneBetween from k xs → EachQueue (told_below start n from) old mid → IfSome (slice_get xs k) (λ x. EachQueue (λ d queue. heard (tells x d) (in_entry n (kind k)) queue) mid new) → EachQueue (told_below start n (k + 1)) old new
     told_more absent silent tells agree start xs n from k old mid new so_far low live none before after = by (slice_get xs k) refl live after

@@ -5,6 +5,7 @@ use Rattle.std.specs.Option.{option_map, IsSomeAnd}
 use Rattle.std.specs.List.{sum_by}
 use Rattle.std.proofs.lemmas.List.Sums.{sum_by_push}
 use Rattle.std.proofs.lemmas.Option.{none-some, slice_get-map}
+use Rattle.std.proofs.Math.Bool.{or-false}
 use Rattle.std.proofs.lemmas.Bool.{false≢true, true≢false, eqb-true}
 use Rattle.wx_id.proofs.ListLemmas.{read_alike}
 use Rattle.wx_id.specs.declared.numbers.ContextNo.{ContextNo}
@@ -31,12 +32,8 @@ receivers_there opener to boxes there d among = mailbox_there (slice_get boxes d
     by false = refl
 
 pub opener_there : (opener : ContextNo) (to : List ContextNo) (old boxes : List MailboxState) → AreThere (opener ∷ to) (queues_in old) → AreRoomier old boxes → EachHas (λ b. 0 ≤ b.room) (opener ∷ []) boxes
-opener_there opener to old boxes there more d among = by (slice_get old d.0) refl (mailbox_there (slice_get old d.0) (subst IsSome (slice_get-map queue_in old d.0) (there d (rw (one (same_context opener d) among) refl))))
+opener_there opener to old boxes there more d among = by (slice_get old d.0) refl (mailbox_there (slice_get old d.0) (subst IsSome (slice_get-map queue_in old d.0) (there d (rw (sym (or-false (same_context opener d)) ∙ among) refl))))
   where
-    one : (s : Bool) → (s || false) ≡ true → s ≡ true
-    one true h = refl
-    one false h = h
-
     with : (b : MailboxState) (o : Option MailboxState) → IsSomeAnd o (IsRoomier b) → IsSomeAnd o (λ b. 0 ≤ b.room)
     with b None h = absurd h
     with b (Some x) h = omega arith
@@ -93,11 +90,7 @@ begun_by change opener receivers old mid new apart first second d = second d ∙
     by (Some b) false false h = refl
 
 pub opener_not_told : (opener : ContextNo) (receivers : List ContextNo) → is_among receivers opener ≡ false → (d : ContextNo) → is_among (opener ∷ []) d ≡ true → is_among receivers d ≡ false
-opener_not_told opener receivers apart d h = ap (λ (n : ℕ). is_among receivers (record { 0 = n })) (sym (eqb-true opener.0 d.0 (one (same_context opener d) h))) ∙ apart
-  where
-    one : (s : Bool) → (s || false) ≡ true → s ≡ true
-    one true h = refl
-    one false h = h
+opener_not_told opener receivers apart d h = ap (λ (n : ℕ). is_among receivers (record { 0 = n })) (sym (eqb-true opener.0 d.0 (sym (or-false (same_context opener d)) ∙ h))) ∙ apart
 
 -- the mailboxes keep what is due once a channel is opened
 pub owed_begun : (ports ports' : List Port) (requests : List Request) (old new : List MailboxState) (opener : ContextNo) (receivers : List ContextNo) (e : Event) → AreOwed ports requests old → EachHas (λ b. 0 < b.room) (opener ∷ []) old → EachHas (λ b. 1 < b.room) receivers old → Begun (connected e) opener receivers old new → ports' ≡ ports ++ opened opener receivers ∷ [] → AreOwed ports' requests new

@@ -4,6 +4,7 @@ use Rattle.std.specs.Prelude.{Option, Some, None, IfSome, slice_get, ◌||◌}
 use Rattle.std.specs.Option.{option_map, IsSomeAnd}
 use Rattle.std.specs.List.{sum_by}
 use Rattle.std.proofs.lemmas.List.Sums.{sum_by-set}
+use Rattle.std.proofs.lemmas.Iterator.Adapters.{option_map_id}
 use Rattle.std.proofs.lemmas.Option.{none-some, slice_get-map, slice_get_within, slice_get_read, get_or_from_slice_get}
 use Rattle.std.proofs.lemmas.Bool.{false≢true, eqb-true}
 use Rattle.wx_id.proofs.ByContextLemmas.{other_is}
@@ -16,9 +17,6 @@ use Rattle.wx_one_shot.specs.Requests.{Request}
 use Rattle.wx_mailbox.specs.Mailbox.{MailboxState}
 use Rattle.wx_tables.specs.State.{owes, awaits, due, owed_in, AreOwed, queue_in, queues_in}
 use Rattle.wx_tables.specs.Ending.{told_each, other_side, ended, Ended, EndsOwed, heard, told_end, dropped, parted, EachQueue}
-
-plus_none : (n : ℕ) → n + 0 ≡ n
-plus_none n = omega arith
 
 -- one channel is changed
 pub owes_set : (ports : List Port) (k : ℕ) (port new : Port) (d : ContextNo) → slice_get ports k ≡ Some port → sum_by (owes d) (set ports k new) + owes d port ≡ sum_by (owes d) ports + owes d new
@@ -122,13 +120,9 @@ queues_at boxes c change b b' within is left d =
     at : slice_get boxes c.0 ≡ Some b
     at = slice_get_read boxes (length boxes) c.0 b refl within is
 
-    whole : (o : Option MailboxState) → option_map queue_in o ≡ option_map (λ q. q) (option_map queue_in o)
-    whole None = refl
-    whole (Some x) = refl
-
     by : (s : Bool) → same_context c d ≡ s → option_map queue_in (slice_get (set boxes c.0 b') d.0) ≡ option_map (λ q. cond s (change q) q) (option_map queue_in (slice_get boxes d.0))
     by true same = let e : c.0 ≡ d.0 = eqb-true c.0 d.0 same in rw (← e) (rw (set_here boxes c.0 b' b at, at) (ap Some left))
-    by false same = rw (set_there boxes c.0 d.0 b' (other_is c.0 d.0 same)) (whole (slice_get boxes d.0))
+    by false same = rw (set_there boxes c.0 d.0 b' (other_is c.0 d.0 same)) (sym (option_map_id (option_map queue_in (slice_get boxes d.0))))
 
 -- who is a live end has a mailbox still, once the queues are changed
 pub there_after : (ports : List Port) (requests : List Request) (boxes boxes' : List MailboxState) (k : ℕ) (c d : ContextNo) (e : Event) → AreOwed ports requests boxes → is_live_end (slice_get ports k) d ≡ true → IfSome (slice_get ports k) (λ port. EachQueue (told_end port c e) (queues_in boxes) (queues_in boxes')) → d.0 < length boxes'

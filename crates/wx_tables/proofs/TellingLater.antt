@@ -3,6 +3,7 @@ use Rattle.std.proofs.Common.{◌≡◌, ℕ, ◌<◌, ◌≤◌, List, [], ◌�
 use Rattle.std.specs.Prelude.{Option, Some, None, IfSome, IsSome, slice_get, Result, Ok, Err, OnOk, ◌||◌}
 use Rattle.std.specs.Option.{option_map, IsSomeAnd}
 use Rattle.std.proofs.lemmas.Option.{slice_get-map}
+use Rattle.std.proofs.Math.Bool.{or-false}
 use Rattle.std.proofs.lemmas.Bool.{false≢true}
 use Rattle.wx_id.specs.declared.numbers.ContextNo.{ContextNo}
 use Rattle.wx_id.specs.declared.events.Event.{Event}
@@ -11,6 +12,7 @@ use Rattle.wx_id.specs.Contexts.{same_context, is_among}
 use Rattle.wx_one_shot.specs.Requests.{Request}
 use Rattle.wx_mailbox.specs.Mailbox.{MailboxState, told}
 use Rattle.wx_id.specs.ByContext.{EachHas, Changed}
+use Rattle.wx_tables.proofs.OpeningLater.{on_ok}
 use Rattle.wx_tables.proofs.OwedLater.{ends_owed}
 use Rattle.wx_tables.specs.State.{owed_in, AreOwed, queue_in, queues_in}
 use Rattle.wx_tables.specs.Ending.{heard, EachQueue, told_end, told_each}
@@ -54,20 +56,12 @@ opener_there ports requests boxes k opener owed open_now is = owed_there (opener
 pub live_there : (ports : List Port) (requests : List Request) (boxes : List MailboxState) (k : ℕ) → AreOwed ports requests boxes → is_open_port (slice_get ports k) ≡ true → AreThere (live_of (slice_get ports k)) (queues_in boxes)
 live_there ports requests boxes k owed open_now = owed_there (live_of (slice_get ports k)) boxes (live_owed (slice_get ports k) boxes open_now (ends_owed ports requests boxes k owed))
 
-on_ok : {A B P Q : Type 0} (r : Result A B) → (P → Q) → OnOk r P → OnOk r Q
-on_ok (Ok a) f h = f h
-on_ok (Err b) f h = tt
-
 pub opener_told : {A B : Type 0} (r : Result A B) (o : Option Port) (opener : ContextNo) (e : Event) (old new : List (List Event)) → IfSome o (λ port. opener ≡ port.opener) → OnOk r (EachQueue (told_each (opener ∷ []) e) old new) → OnOk r (IfSome o (λ port. EachQueue (told_opener port e) old new))
 opener_told r o opener e old new is h = on_ok r (by o is) h
   where
-    one : (s : Bool) → (s || false) ≡ s
-    one true = refl
-    one false = refl
-
     by : (o : Option Port) → IfSome o (λ port. opener ≡ port.opener) → EachQueue (told_each (opener ∷ []) e) old new → IfSome o (λ port. EachQueue (told_opener port e) old new)
     by None is h = tt
-    by (Some port) is h = λ d. h d ∙ ap (λ s. option_map (λ queue. heard s e queue) (slice_get old d.0)) (one (same_context opener d) ∙ ap (λ (c : ContextNo). same_context c d) is)
+    by (Some port) is h = λ d. h d ∙ ap (λ s. option_map (λ queue. heard s e queue) (slice_get old d.0)) (or-false (same_context opener d) ∙ ap (λ (c : ContextNo). same_context c d) is)
 
 pub live_told : {A B : Type 0} (r : Result A B) (o : Option Port) (live : List ContextNo) (e : Event) (old new : List (List Event)) → live ≡ live_of o → OnOk r (EachQueue (told_each live e) old new) → OnOk r (IfSome o (λ port. EachQueue (told_each port.live e) old new))
 live_told r o live e old new is h = on_ok r (by o is) h
@@ -76,22 +70,3 @@ live_told r o live e old new is h = on_ok r (by o is) h
     by None is h = tt
     by (Some port) is h = λ d. h d ∙ ap (λ l. option_map (told_each l e d) (slice_get old d.0)) is
 
-pub post_by_opener : {A B : Type 0} (r : Result A B) (o : Option Port) (opener c : ContextNo) (e : Event) (old new : List (List Event)) → IfSome o (λ port. opener ≡ port.opener) → same_context opener c ≡ true → OnOk r (IfSome o (λ port. EachQueue (told_each port.live e) old new)) → OnOk r (IfSome o (λ port. EachQueue (told_end port c e) old new))
-post_by_opener r o opener c e old new is same h = on_ok r (by o is) h
-  where
-    by : (o : Option Port) → IfSome o (λ port. opener ≡ port.opener) → IfSome o (λ port. EachQueue (told_each port.live e) old new) → IfSome o (λ port. EachQueue (told_end port c e) old new)
-    by None is h = tt
-    by (Some port) is h = λ d. h d ∙ ap (λ s. option_map (λ queue. heard (is_among (cond s port.live (port.opener ∷ [])) d) e queue) (slice_get old d.0)) (sym (ap (λ (x : ContextNo). same_context x c) (sym is) ∙ same))
-
-pub post_by_receiver : {A B : Type 0} (r : Result A B) (o : Option Port) (opener c : ContextNo) (e : Event) (old new : List (List Event)) → IfSome o (λ port. opener ≡ port.opener) → same_context opener c ≡ false → OnOk r (IfSome o (λ port. EachQueue (told_opener port e) old new)) → OnOk r (IfSome o (λ port. EachQueue (told_end port c e) old new))
-post_by_receiver r o opener c e old new is same h = on_ok r (by o is) h
-  where
-    one : (s : Bool) → s ≡ (s || false)
-    one true = refl
-    one false = refl
-
-    by : (o : Option Port) → IfSome o (λ port. opener ≡ port.opener) → IfSome o (λ port. EachQueue (told_opener port e) old new) → IfSome o (λ port. EachQueue (told_end port c e) old new)
-    by None is h = tt
-    by (Some port) is h = λ d. h d
-        ∙ ap (λ s. option_map (λ queue. heard s e queue) (slice_get old d.0)) (one (same_context port.opener d))
-        ∙ ap (λ s. option_map (λ queue. heard (is_among (cond s port.live (port.opener ∷ [])) d) e queue) (slice_get old d.0)) (sym (ap (λ (x : ContextNo). same_context x c) (sym is) ∙ same))
