@@ -1,5 +1,5 @@
 -- What the leave of a context makes of channels and mailboxes.
-use Rattle.std.proofs.Common.{◌≡◌, ℕ, suc, ◌+◌, ◌<◌, List, [], ◌∷◌, ◌++◌, length, set, refl, ap, sym, ◌∙◌, Bool, true, false, cond, not, arith, append-nil}
+use Rattle.std.proofs.Common.{◌≡◌, ℕ, suc, ◌+◌, ◌<◌, List, [], ◌∷◌, length, set, refl, ap, sym, ◌∙◌, Bool, true, false, cond, not, arith}
 use Rattle.std.specs.Prelude.{Option, Some, None, IfSome, slice_get, filter, ◌||◌, ◌&&◌, ◌==◌, if◌then◌else◌}
 use Rattle.std.specs.Option.{option_map, IsSomeAnd}
 use Rattle.std.specs.List.{sum_by}
@@ -18,8 +18,8 @@ use Rattle.wx_mailbox.specs.Mailbox.{MailboxState, forgiven}
 use Rattle.wx_id.specs.ByContext.{Changed, EachHas}
 use Rattle.wx_tables.proofs.OwedLater.{owes_set, ends_owed}
 use Rattle.wx_tables.specs.State.{owes, awaits, owed_in, AreOwed, queue_in, queues_in}
-use Rattle.wx_tables.specs.Ending.{other_side, heard, told_end, EachQueue, EndsOwed}
-use Rattle.wx_tables.specs.Leaving.{closes_by, told_leave, told_ends}
+use Rattle.wx_tables.specs.Ending.{EachQueue, EndsOwed}
+use Rattle.wx_tables.specs.Leaving.{closes_by, told_ends}
 use Rattle.wx_tables.specs.Asking.{told_left, told_outcomes}
 
 -- without one of them there is one fewer

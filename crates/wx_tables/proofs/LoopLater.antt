@@ -1,6 +1,6 @@
 -- A list as far as the leave of a context has come, and what is told of it: the same of channels and of requests.
 use Rattle.std.proofs.Common.{◌≡◌, ℕ, suc, zero, ◌+◌, ◌-◌, ◌<◌, ◌≤◌, List, [], ◌∷◌, ◌++◌, length, set, map, refl, ap, sym, ◌∙◌, Bool, true, false, cond, arith, subst, append-nil, zero-add}
-use Rattle.std.specs.Prelude.{Option, Some, None, IfSome, slice_get, flat_map, nat_lt, ◌&&◌, ◌==◌}
+use Rattle.std.specs.Prelude.{Option, Some, None, IfSome, slice_get, flat_map, nat_lt, ◌==◌}
 use Rattle.std.specs.Option.{option_map}
 use Rattle.std.specs.List.{range_with_len}
 use Rattle.std.proofs.lemmas.Option.{slice_get-map}
@@ -16,7 +16,7 @@ use Rattle.wx_id.specs.declared.numbers.EntryNo.{EntryNo}
 use Rattle.wx_id.specs.declared.events.Event.{Event}
 use Rattle.wx_id.specs.declared.events.EventKind.{EventKind}
 use Rattle.wx_tables.specs.Ending.{heard, EachQueue}
-use Rattle.wx_tables.specs.Leaving.{in_entry}
+use Rattle.wx_tables.specs.State.{in_entry}
 
 -- a range with one more number
 range_more : (n : ℕ) → range_with_len 0 (n + 1) ≡ range_with_len 0 n ++ n ∷ []

@@ -1,23 +1,21 @@
 -- What a message makes of the mailboxes.
 use Rattle.std.proofs.Common.{◌≡◌, ℕ, ◌<◌, ◌≤◌, List, [], ◌∷◌, refl, ap, sym, ◌∙◌, Bool, true, false, cond, arith, append-nil}
-use Rattle.std.specs.Prelude.{Option, Some, None, IfSome, IsSome, slice_get, Result, Ok, Err, OnOk, ◌||◌}
+use Rattle.std.specs.Prelude.{Option, Some, None, IfSome, IsSome, slice_get, Result, OnOk}
 use Rattle.std.specs.Option.{option_map, IsSomeAnd}
 use Rattle.std.proofs.lemmas.Option.{slice_get-map}
-use Rattle.std.proofs.Math.Bool.{or-false}
 use Rattle.std.proofs.lemmas.Bool.{false≢true}
 use Rattle.wx_id.specs.declared.numbers.ContextNo.{ContextNo}
 use Rattle.wx_id.specs.declared.events.Event.{Event}
 use Rattle.wx_port.specs.Port.{Port, is_open_port, live_of}
-use Rattle.wx_id.specs.Contexts.{same_context, is_among}
+use Rattle.wx_id.specs.Contexts.{is_among}
 use Rattle.wx_one_shot.specs.Requests.{Request}
 use Rattle.wx_mailbox.specs.Mailbox.{MailboxState, told}
 use Rattle.wx_id.specs.ByContext.{EachHas, Changed}
 use Rattle.wx_tables.proofs.OpeningLater.{on_ok}
 use Rattle.wx_tables.proofs.OwedLater.{ends_owed}
 use Rattle.wx_tables.specs.State.{owed_in, AreOwed, queue_in, queues_in}
-use Rattle.wx_tables.specs.Ending.{heard, EachQueue, told_end, told_each}
+use Rattle.wx_tables.specs.Ending.{heard, EachQueue, told_each, told_opener}
 use Rattle.wx_tables.specs.Opening.{AreThere}
-use Rattle.wx_tables.specs.Telling.{told_opener}
 use Rattle.wx_tables.proofs.EndingLater.{live_owed, opener_owed}
 
 pub owed_told : (ports : List Port) (requests : List Request) (to : List ContextNo) (e : Event) (old new : List MailboxState) → AreOwed ports requests old → Changed (told e) to old new → AreOwed ports requests new
@@ -61,7 +59,7 @@ opener_told r o opener e old new is h = on_ok r (by o is) h
   where
     by : (o : Option Port) → IfSome o (λ port. opener ≡ port.opener) → EachQueue (told_each (opener ∷ []) e) old new → IfSome o (λ port. EachQueue (told_opener port e) old new)
     by None is h = tt
-    by (Some port) is h = λ d. h d ∙ ap (λ s. option_map (λ queue. heard s e queue) (slice_get old d.0)) (or-false (same_context opener d) ∙ ap (λ (c : ContextNo). same_context c d) is)
+    by (Some port) is h = λ d. h d ∙ ap (λ (c : ContextNo). option_map (told_each (c ∷ []) e d) (slice_get old d.0)) is
 
 pub live_told : {A B : Type 0} (r : Result A B) (o : Option Port) (live : List ContextNo) (e : Event) (old new : List (List Event)) → live ≡ live_of o → OnOk r (EachQueue (told_each live e) old new) → OnOk r (IfSome o (λ port. EachQueue (told_each port.live e) old new))
 live_told r o live e old new is h = on_ok r (by o is) h
@@ -69,4 +67,3 @@ live_told r o live e old new is h = on_ok r (by o is) h
     by : (o : Option Port) → live ≡ live_of o → EachQueue (told_each live e) old new → IfSome o (λ port. EachQueue (told_each port.live e) old new)
     by None is h = tt
     by (Some port) is h = λ d. h d ∙ ap (λ l. option_map (told_each l e d) (slice_get old d.0)) is
-

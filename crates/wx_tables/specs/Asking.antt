@@ -10,7 +10,8 @@ use Rattle.wx_port.specs.Port.{Port}
 use Rattle.wx_one_shot.specs.Requests.{Request, concerns_at, settled, without}
 use Rattle.wx_id.specs.Contexts.{same_context, is_among}
 use Rattle.wx_tables.specs.Ending.{heard}
-use Rattle.wx_tables.specs.Leaving.{in_entry, told_ends}
+use Rattle.wx_tables.specs.State.{in_entry}
+use Rattle.wx_tables.specs.Leaving.{told_ends}
 
 -- the asker of the request hears of its outcome
 abbrev pub told_asker : Bool → Request → Event → ContextNo → List Event → List Event

@@ -41,7 +41,11 @@ EachQueue change old new =
 abbrev pub told_each : List ContextNo → Event → ContextNo → List Event → List Event
 told_each to e d queue = heard (is_among to d) e queue
 
--- what waits once the channel has ended by c
+-- what waits once the opener of the channel is told
+abbrev pub told_opener : Port → Event → ContextNo → List Event → List Event
+told_opener port e d queue = told_each (port.opener ∷ []) e d queue
+
+-- what waits once the channel has ended by c, or c has posted on it: the other side is told
 abbrev pub told_end : Port → ContextNo → Event → ContextNo → List Event → List Event
 told_end port c e d queue = told_each (other_side port c) e d queue
 

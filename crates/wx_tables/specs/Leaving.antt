@@ -8,6 +8,7 @@ use Rattle.wx_id.specs.declared.events.EventKind.{EventKind}
 use Rattle.wx_id.specs.declared.events.EventKind.TheVariants.{Disconnected}
 use Rattle.wx_port.specs.Port.{Port, is_live_end, without}
 use Rattle.wx_id.specs.Contexts.{is_among}
+use Rattle.wx_tables.specs.State.{in_entry}
 use Rattle.wx_tables.specs.Ending.{other_side, heard}
 
 -- the channel once its live end c has left
@@ -33,9 +34,6 @@ end_told ports c d k = cond (hears_end (slice_get ports k) c d) (Disconnected (r
 -- the ends of channels below that number that are told to d
 abbrev pub ends_told : List Port → ContextNo → ContextNo → ℕ → List EventKind
 ends_told ports c d below = flat_map (end_told ports c d) (range_with_len 0 below)
-
-abbrev pub in_entry : EntryNo → EventKind → Event
-in_entry n kind = record { entry = n; kind = kind }
 
 -- what waits once c has left the channels below that number
 abbrev pub told_ends : List Port → ContextNo → EntryNo → ℕ → ContextNo → List Event → List Event

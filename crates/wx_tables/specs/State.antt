@@ -3,7 +3,9 @@
 use Rattle.std.specs.Prelude.{◌≡◌, ℕ, ◌+◌, List, map, not, ◌&&◌, cond, Option, Some, None, slice_get}
 use Rattle.std.specs.List.{sum_by}
 use Rattle.wx_id.specs.declared.numbers.ContextNo.{ContextNo}
+use Rattle.wx_id.specs.declared.numbers.EntryNo.{EntryNo}
 use Rattle.wx_id.specs.declared.events.Event.{Event}
+use Rattle.wx_id.specs.declared.events.EventKind.{EventKind}
 use Rattle.wx_port.specs.Port.{Port, is_live_end}
 use Rattle.wx_id.specs.Contexts.{same_context}
 use Rattle.wx_one_shot.specs.Requests.{Request}
@@ -15,6 +17,11 @@ pub record TablesState : Type 0 where
   pub requests : List Request
   pub queues : List (List Event)
 
+-- an event that an entry delivers
+abbrev pub in_entry : EntryNo → EventKind → Event
+in_entry n kind = record { entry = n; kind = kind }
+
+-- the events in a mailbox, and in each of them
 abbrev pub queue_in : MailboxState → List Event
 queue_in b = b.events
 
@@ -33,6 +40,7 @@ awaits d request = cond (not request.is_settled && same_context request.asker d)
 abbrev pub due : List Port → List Request → ContextNo → ℕ
 due ports requests d = sum_by (owes d) ports + sum_by (awaits d) requests
 
+-- the places that the mailbox of a context keeps; none where there is no such context
 abbrev pub owed_in : Option MailboxState → ℕ
 owed_in None = 0
 owed_in (Some b) = b.owed

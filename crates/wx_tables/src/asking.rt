@@ -1,4 +1,4 @@
-//! The outcome of a request.
+//! The outcome of a request: its asker is told in the place that it kept, or gives it up where it leaves.
 ghost use Rattle.std.specs.Prelude.{◌≡◌, ◌<◌, ◌∷◌, [], length, map, IsTrue, IfSome, true, slice_get, slice_set};
 ghost use Rattle.wx_one_shot.specs.declared.requests.Standing.TheVariants.{Open};
 ghost use Rattle.wx_one_shot.specs.Requests.{concerns_at, is_unsettled_at, settled, standing_at, without};

@@ -1,9 +1,9 @@
-//! What the end of a channel tells.
+//! The end of a channel: those on the other side are told in the place that they kept, and the others give theirs up.
 ghost use Rattle.std.specs.Prelude.{◌≡◌, ℕ, ◌<◌, [], ◌∷◌, length, IsTrue, IfSome, slice_get, slice_set};
 ghost use Rattle.wx_port.specs.Port.{closed, is_open_port, is_live_end};
 ghost use Rattle.wx_id.specs.Contexts.{same_context};
 ghost use Rattle.wx_tables.specs.State.{AreOwed, queues_in};
-ghost use Rattle.wx_tables.specs.Ending.{other_side, told_each, dropped, told_end, parted, EachQueue, Ended, EndsOwed, SameOwed};
+ghost use Rattle.wx_tables.specs.Ending.{other_side, told_opener, dropped, told_end, parted, EachQueue, Ended, EndsOwed, SameOwed};
 
 use wx_id::{ChannelNo, ContextNo, Event};
 use wx_mailbox::{Mailbox, mailboxes};
@@ -91,7 +91,7 @@ pub fn end_by_host(
     ensures owed { AreOwed ports.new requests.now boxes.new.items }
     ensures ports { IfSome (slice_get ports.old k.0) (λ port. ports.new ≡ slice_set ports.old k.0 (closed port)) }
     ensures queues { IfSome (slice_get ports.old k.0)
-        (λ port. EachQueue (told_each (port.opener ∷ []) e) (queues_in boxes.old.items) (queues_in boxes.new.items)) }
+        (λ port. EachQueue (told_opener port e) (queues_in boxes.old.items) (queues_in boxes.new.items)) }
 {
     let _ = requests;
     let opener = ports.opener(k);

@@ -1,4 +1,4 @@
-//! The leave of a context.
+//! What the leave of a context makes of its channels.
 ghost use Rattle.std.specs.Prelude.{◌≡◌, ◌<◌, ◌∷◌, [], length, map, IsTrue, IfSome, not, true, slice_get, slice_set};
 ghost use Rattle.wx_port.specs.Port.{is_live_end, without};
 ghost use Rattle.wx_tables.specs.State.{AreOwed, queues_in};

@@ -7,9 +7,8 @@ ghost use Rattle.wx_port.specs.Port.{opened, live_of};
 ghost use Rattle.wx_one_shot.specs.Requests.{asked, still_open_at};
 ghost use Rattle.wx_mailbox.specs.Mailbox.{connected, told};
 ghost use Rattle.wx_mailbox.specs.Mailboxes.{AreRoomier};
-ghost use Rattle.wx_tables.specs.State.{AreOwed, queues_in};
+ghost use Rattle.wx_tables.specs.State.{AreOwed, queues_in, in_entry};
 ghost use Rattle.wx_tables.specs.Ending.{EachQueue, told_each};
-ghost use Rattle.wx_tables.specs.Leaving.{in_entry};
 ghost use Rattle.wx_tables.specs.Opening.{AreThere, Begun};
 
 use wx_id::{ChannelNo, ContextNo, EntryNo, Event, EventKind, NoMemory, RequestNo};

@@ -1,11 +1,10 @@
-//! A message on a channel.
+//! A message on a channel. Room is taken first, so that it reaches all or none.
 ghost use Rattle.std.specs.Prelude.{◌≡◌, ◌<◌, ◌∷◌, [], length, IsTrue, IfSome, OnOk, OnErr, slice_get};
 ghost use Rattle.wx_id.specs.Contexts.{are_distinct};
 ghost use Rattle.wx_port.specs.Port.{is_live_end, is_open_port};
 ghost use Rattle.wx_tables.specs.State.{AreOwed, queues_in};
-ghost use Rattle.wx_tables.specs.Ending.{told_end, EachQueue, told_each};
+ghost use Rattle.wx_tables.specs.Ending.{told_end, EachQueue, told_each, told_opener};
 ghost use Rattle.wx_tables.specs.Opening.{AreThere};
-ghost use Rattle.wx_tables.specs.Telling.{told_opener};
 
 use wx_id::{ChannelNo, ContextNo, Event, NoMemory};
 use wx_mailbox::{Mailbox, mailboxes};

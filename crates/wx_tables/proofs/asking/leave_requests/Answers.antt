@@ -1,4 +1,4 @@
-use Rattle.std.proofs.Common.{refl, rules, arith, ◌≤◌, ◌<◌, length, ◌≡◌, Bool, true, false, ℕ}
+use Rattle.std.proofs.Common.{refl, arith, ◌≤◌, ◌<◌, length, ◌≡◌, true, false, ℕ}
 use Rattle.std.specs.Prelude.{Option, Some, None, ◌&&◌}
 use Rattle.wx_id.specs.declared.numbers.ContextNo.{ContextNo}
 use Rattle.wx_id.specs.declared.events.EventKind.{EventKind}

@@ -3,7 +3,7 @@ use Rattle.wx_id.specs.declared.events.EventKind.TheVariants as kind
 use Rattle.wx_one_shot.specs.Requests.{asked}
 use Rattle.wx_id.specs.ByContext.{EachHas}
 use Rattle.wx_mailbox.specs.Mailbox.{told}
-use Rattle.wx_tables.specs.Leaving.{in_entry}
+use Rattle.wx_tables.specs.State.{in_entry}
 use Rattle.wx_tables.proofs.OpeningLater.{roomier_owed, roomier_queues, last_open, owed_asked, queues_begun, ok_holds}
 use Rattle.wx_tables.proofs.opening.ask.Goals as goal
 
