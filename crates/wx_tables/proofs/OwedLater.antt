@@ -5,6 +5,7 @@ use Rattle.std.specs.Option.{option_map, IsSomeAnd}
 use Rattle.std.specs.List.{sum_by}
 use Rattle.std.proofs.lemmas.List.Sums.{sum_by-set}
 use Rattle.std.proofs.lemmas.Iterator.Adapters.{option_map_id}
+use Rattle.std.proofs.lemmas.List.{length-map}
 use Rattle.std.proofs.lemmas.Option.{none-some, slice_get-map, slice_get_within, slice_get_read, get_or_from_slice_get}
 use Rattle.std.proofs.lemmas.Bool.{false≢true, eqb-true}
 use Rattle.wx_id.proofs.ByContextLemmas.{other_is}
@@ -155,3 +156,7 @@ queues_parted (Some port) old mid new c k e first second = λ d. second d ∙ ap
 
 pub owed_same : (ports : List Port) (requests : List Request) (old new : List MailboxState) → AreOwed ports requests old → ((d : ContextNo) → owed_in (slice_get new d.0) ≡ owed_in (slice_get old d.0)) → AreOwed ports requests new
 owed_same ports requests old new owed same = record { each = λ d. same d ∙ owed.each d }
+
+-- there are as many queues as mailboxes
+pub as_many : (boxes : List MailboxState) → length (queues_in boxes) ≡ length boxes
+as_many boxes = length-map boxes queue_in

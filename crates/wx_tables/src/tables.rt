@@ -290,7 +290,8 @@ impl Tables {
     }
 
     /// Context c leaves, in entry n: first each open channel of which it is a live end, by number, and then each
-    /// unsettled request that it asked or may still reply to. O(its own channels and requests).
+    /// unsettled request that it asked or may still reply to. Goes through its own channels and requests, and the
+    /// receivers of each.
     #[tactic(auto, using(crate::proofs::LeavingLater::queues_left))]
     pub fn leave(&mut self, c: ContextNo, n: EntryNo)
         ensures ports { self.new.ports ≡ map (left_at c) self.old.ports }
@@ -318,6 +319,14 @@ impl Tables {
         ensures queues { EachQueue (taken c) self.old.queues self.new.queues }
     {
         waiting::take(&self.ports, &self.requests, &mut self.boxes, c)
+    }
+
+    /// How many contexts came in.
+    #[tactic(auto, using(crate::proofs::OwedLater::as_many))]
+    pub fn contexts(&self) -> u64
+        ensures { result ≡ length self.now.queues }
+    {
+        self.boxes.len() as u64
     }
 
     /// How many channels were opened.
