@@ -44,7 +44,7 @@ carries_on scripts s c [] is follows = tt
 carries_on scripts s c (e ∷ past) is follows = (
   carries_on scripts s c past is follows.0,
   elim (is_by e.who c) as (λ b. is_by e.who c ≡ b → MayStand s c b (seen_by (ByContext c) past) e) [
-    | true ↦ λ is_c. may_stand s c past e (asked_of scripts past s c e e.who follows.1 is_c is).2
+    | true ↦ λ is_c. may_stand s c past e (asked_of scripts past s c e e.who follows.1 is_c is).1
     | false ↦ λ is_c. tt
   ] refl,
 )
