@@ -1,15 +1,19 @@
 -- Slots for the hosts that have none.
 use Rattle.std.proofs.Common.{◌≡◌, ℕ, ◌+◌, ◌-◌, ◌*◌, ◌<◌, ◌≤◌, length, take, cond, arith, Bool, true, List, [], ◌∷◌, ◌++◌, refl, sym, ap, ◌∙◌, subst, append_assoc, append-nil}
-use Rattle.std.specs.Prelude.{Some, None}
+use Rattle.std.specs.Prelude.{None}
+use Rattle.std.specs.Option.{option_map}
 use Rattle.std.proofs.lemmas.List.{length-append, take-append-le}
+use Rattle.std.proofs.lemmas.List.Elements.{All-nil}
+use Rattle.std.proofs.lemmas.List.Sums.{sum_by_push}
 use Rattle.wx_external.specs.World.{WorldLists}
 use Rattle.wx_machine.specs.declared.entries.Entry.{Entry}
 use Rattle.wx_machine.specs.Words.{hosts}
 use Rattle.wx_host_launch.specs.Records.{StarterState, slot_like, with_place}
-use Rattle.wx_host_slot.specs.Slots.{SlotState, waiting_slot, turns_left, host_limit}
+use Rattle.wx_host_slot.specs.Slots.{SlotState, WasStarted, waiting_slot, is_spent_at, turns_left, host_limit}
 use Rattle.wx_run.specs.Hosts.{host_numbered}
 use Rattle.wx_run.specs.Slots.{HostsStand, AllWereStarted, WereStartedBelow, AddsBehind, first_spent_slot, all_turns_left, keeping}
-use Rattle.wx_run.proofs.SlotLemmas.{hosts_stand_append, spent_split}
+use Rattle.wx_run.proofs.FirstLemmas.{none-append}
+use Rattle.wx_run.proofs.SlotLemmas.{hosts_stand_append, no_spent_slot}
 
 -- slots were added so far, with waiting hosts, and a place was kept for each
 pub record AddedSoFar (world : WorldLists) (past : List Entry) (start now : StarterState) (old slots : List SlotState) : Type 0 where
@@ -20,16 +24,6 @@ pub record AddedSoFar (world : WorldLists) (past : List Entry) (start now : Star
   pub left : all_turns_left slots ≡ all_turns_left old + (host_limit + 4) * (length slots - length old)
   pub kept : now ≡ keeping (length slots - length old) start
 
-unspent_append : (slots : List SlotState) (n : ℕ) (starter : StarterState) → first_spent_slot n slots ≡ None → first_spent_slot n (slots ++ waiting_slot starter ∷ []) ≡ None
-unspent_append [] n starter none = refl
-unspent_append (p ∷ slots) n starter none =
-    let rest = spent_split _ (host_numbered n) (first_spent_slot (n + 1) slots) none in
-    ap (λ b. cond b (Some (host_numbered n)) (first_spent_slot (n + 1) (slots ++ waiting_slot starter ∷ []))) rest.0 ∙ unspent_append slots (n + 1) starter rest.1
-
-left_append : (slots : List SlotState) (q : SlotState) → all_turns_left (slots ++ q ∷ []) ≡ all_turns_left slots + turns_left q
-left_append [] q = omega arith
-left_append (p ∷ slots) q = omega (arith, left_append slots q)
-
 adds_on : (old slots : List SlotState) (q : SlotState) → AddsBehind old slots → AddsBehind old (slots ++ q ∷ [])
 adds_on old slots q added = (added.0 ++ q ∷ [], ap (λ s. s ++ q ∷ []) added.1 ∙ append_assoc old added.0 (q ∷ []))
 
@@ -38,7 +32,7 @@ pub were_started : (old new : List SlotState) (known : ℕ) → AddsBehind old n
 were_started old new known added started = subst AllWereStarted (sym (take-append-le known old added.0 started.0) ∙ ap (λ slots. take known slots) (sym added.1)) started.1
 
 pub none_below : (slots : List SlotState) → WereStartedBelow 0 slots
-none_below slots = (omega arith, tt)
+none_below slots = (omega arith, All-nil WasStarted)
 
 pub adding_begins : (world : WorldLists) (past : List Entry) (start : StarterState) (slots : List SlotState) → HostsStand start.writing world past slots → AddedSoFar world past start start slots slots
 adding_begins world past start slots stand =
@@ -65,8 +59,8 @@ slot_added world past start now old slots so below =
       stand = subst (λ w. HostsStand w world past (slots ++ q ∷ [])) writing (hosts_stand_append world past slots now (subst (λ w. HostsStand w world past slots) (sym writing) so.stand) below);
       more = omega (arith, size, more);
       front = adds_on old slots q so.front;
-      unspent = λ none. unspent_append slots 0 (slot_like now) (so.unspent none);
-      left = (let left = left_append slots q in omega (arith, size, more, left, so.left));
+      unspent = λ none. ap (option_map host_numbered) (none-append is_spent_at slots 0 q (no_spent_slot slots (so.unspent none)) refl);
+      left = (let left = sum_by_push turns_left slots q in omega (arith, size, more, left, so.left));
       kept = ap with_place so.kept ∙ ap (λ n. record start { places = n }) places;
     }
 

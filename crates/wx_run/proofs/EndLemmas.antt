@@ -1,6 +1,5 @@
 -- How cursors tell the end of a run.
-use Rattle.std.proofs.Common.{◌≡◌, ℕ, zero, suc, ◌+◌, ◌<◌, length, set, cond, arith, Bool, true, false, List, [], ◌∷◌, ◌++◌, Some, None, refl, sym, ap, ◌∙◌, subst}
-use Rattle.std.specs.declared.option.Option.{Option}
+use Rattle.std.proofs.Common.{◌≡◌, ℕ, zero, suc, ◌+◌, cond, arith, Bool, true, false, List, [], ◌∷◌, Some, refl, sym, ap, ◌∙◌, subst}
 use Rattle.std.specs.Prelude.{slice_get, not, ◌&&◌, nat_le}
 use Rattle.wx_id.specs.declared.numbers.ContextNo.{ContextNo}
 use Rattle.wx_machine.specs.declared.entries.Entry.{Entry}
@@ -25,42 +24,6 @@ spent_from-cursors (s ∷ ss) n past =
 -- cursors that stand behind the journal tell who is spent
 pub spent_behind : (scripts : List (List Command)) (ps : List CursorState) (past : List Entry) → AreBehind scripts ps past → spent_of scripts past ≡ first_spent_in 0 ps
 spent_behind scripts ps past behind = spent_from-cursors scripts 0 past ∙ ap (first_spent_in 0) (sym behind)
-
-none_split : (b : Bool) (n : ℕ) (o : Option ℕ) → cond b (Some n) o ≡ None → (b ≡ false) × (o ≡ None)
-none_split true n o is = absurd cc
-none_split false n o is = (refl, is)
-
-pub unspent_at : (ps : List CursorState) (n i : ℕ) (p : CursorState) → first_spent_in n ps ≡ None → slice_get ps i ≡ Some p → is_spent_at p ≡ false
-unspent_at [] n i p none is = absurd cc
-unspent_at (r ∷ ps) n zero p none is =
-    let same : r ≡ p = cc in
-    subst (λ p. is_spent_at p ≡ false) same (none_split (is_spent_at r) n (first_spent_in (n + 1) ps) none).0
-unspent_at (r ∷ ps) n (suc i) p none is = unspent_at ps (n + 1) i p (none_split (is_spent_at r) n (first_spent_in (n + 1) ps) none).1 is
-
-pub unspent-set : (ps : List CursorState) (n i : ℕ) (q : CursorState) → i < length ps → first_spent_in n ps ≡ None → is_spent_at q ≡ false → first_spent_in n (set ps i q) ≡ None
-unspent-set [] n i q below none is = absurd (omega arith)
-unspent-set (r ∷ ps) n zero q below none is =
-    let rest = none_split (is_spent_at r) n (first_spent_in (n + 1) ps) none in
-    ap (λ b. cond b (Some n) (first_spent_in (n + 1) ps)) is ∙ rest.1
-unspent-set (r ∷ ps) n (suc i) q below none is =
-    let rest = none_split (is_spent_at r) n (first_spent_in (n + 1) ps) none in
-    ap (λ b. cond b (Some n) (first_spent_in (n + 1) (set ps i q))) rest.0 ∙ unspent-set ps (n + 1) i q (omega arith) rest.1 is
-
-pub unspent-append : (ps : List CursorState) (n : ℕ) (q : CursorState) → first_spent_in n ps ≡ None → is_spent_at q ≡ false → first_spent_in n (ps ++ q ∷ []) ≡ None
-unspent-append [] n q none is = ap (λ b. cond b (Some n) (first_spent_in (n + 1) [])) is
-unspent-append (r ∷ ps) n q none is =
-    let rest = none_split (is_spent_at r) n (first_spent_in (n + 1) ps) none in
-    ap (λ b. cond b (Some n) (first_spent_in (n + 1) (ps ++ q ∷ []))) rest.0 ∙ unspent-append ps (n + 1) q rest.1 is
-
-pub spent-set : (ps : List CursorState) (n i m : ℕ) (q : CursorState) → i < length ps → m ≡ n + i → first_spent_in n ps ≡ None → is_spent_at q ≡ true → first_spent_in n (set ps i q) ≡ Some m
-spent-set [] n i m q below at none is = absurd (omega arith)
-spent-set (r ∷ ps) n zero m q below at none is =
-    let here : n ≡ m = omega arith in
-    ap (λ b. cond b (Some n) (first_spent_in (n + 1) ps)) is ∙ ap Some here
-spent-set (r ∷ ps) n (suc i) m q below at none is =
-    let rest = none_split (is_spent_at r) n (first_spent_in (n + 1) ps) none in
-    let next : m ≡ n + 1 + i = omega arith in
-    ap (λ b. cond b (Some n) (first_spent_in (n + 1) (set ps i q))) rest.0 ∙ spent-set ps (n + 1) i m q (omega arith) next rest.1 is
 
 -- ---- done
 

@@ -1,4 +1,5 @@
 pub mod ListLemmas
+pub mod FirstLemmas
 pub mod HostEntries
 pub mod SlotLemmas
 pub mod ServeLemmas

@@ -52,7 +52,7 @@ use Rattle.wx_run.specs.Step.{IsReady, Moves, IsStep}
 use Rattle.wx_run.proofs.ListLemmas.{take-snoc, length-take-at}
 use Rattle.wx_run.proofs.CursorLemmas.{place_of-own, place_of-other, entries_by-own, entries_by-other, cursors_from-later, cursors_from-append, scripts_in-cursors_from}
 use Rattle.wx_run.proofs.SeenLemmas.{may_stand}
-use Rattle.wx_run.proofs.EndLemmas.{unspent-append}
+use Rattle.wx_run.proofs.FirstLemmas.{none-append}
 use Rattle.wx_run.proofs.RoundLemmas.{follows_script, within_more}
 use Rattle.wx_run.proofs.RunLemmas.{begins_with}
 
@@ -301,7 +301,7 @@ opened_by world endpoints i e None ps p past after is first so came opened =
       all_in = came.all_in;
       follows = came.follows;
       within_limit = came.within_limit;
-      unspent = unspent-append ps 0 p so.unspent (ap is_spent_at opened.0 ∙ started);
+      unspent = none-append is_spent_at ps 0 p so.unspent (ap is_spent_at opened.0 ∙ started);
       no_hosts = came.no_hosts;
     } in
     subst (λ j. OpenedSoFar world endpoints (i + 1) (ps ++ p ∷ []) j) (sym opened.1) here
@@ -324,7 +324,7 @@ opened_by world endpoints i e (Some l) ps p past after is first so came opened =
             };
             follows = (came.follows, follows_script (scripts_at endpoints) before c s x moves.own at moves.asked);
             within_limit = within_more c before x moves.own moves.within_limit came.within_limit;
-            unspent = unspent-append ps 0 p so.unspent (two_unspent world s c p before after came.cursor moves);
+            unspent = none-append is_spent_at ps 0 p so.unspent (two_unspent world s c p before after came.cursor moves);
             no_hosts = ap (λ (e : Entry). hosts (e ∷ before)) made ∙ ap (λ started. started ++ []) came.no_hosts;
           } in
           subst (λ j. OpenedSoFar world endpoints (i + 1) (ps ++ p ∷ []) j) (sym moves.made) here

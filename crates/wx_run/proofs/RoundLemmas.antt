@@ -1,5 +1,5 @@
 -- One more turn of a round.
-use Rattle.std.proofs.Common.{◌≡◌, ℕ, zero, suc, ◌+◌, ◌<◌, ◌≤◌, length, take, set, get_or, arith, Bool, true, false, List, [], ◌∷◌, ◌++◌, Some, None, refl, sym, ap, ◌∙◌, subst, inl, inr, eqb}
+use Rattle.std.proofs.Common.{◌≡◌, ℕ, ◌+◌, ◌-◌, ◌<◌, ◌≤◌, length, take, set, get_or, arith, Bool, true, false, List, [], ◌∷◌, ◌++◌, Some, None, refl, sym, ap, ◌∙◌, subst, inl, inr, eqb}
 use Rattle.std.specs.Prelude.{slice_get, ◌||◌}
 use Rattle.std.proofs.lemmas.Bool.{cases_lt, eqb-true, eq-eqb}
 use Rattle.std.proofs.lemmas.Option.{slice_get_read, slice_get_within}
@@ -23,11 +23,12 @@ use Rattle.wx_run.specs.Rounds.{Turn, Turns}
 use Rattle.wx_run.specs.Step.{IsReady, Moves, Rests, IsStep}
 use Rattle.wx_run.specs.Round.{AllStand, IsWithinLimit, AreIdleBelow, IdleUnlessMoved, RoundSoFar, IsRound, SpendsEndpoint, Falls, Lessens}
 use Rattle.wx_id.proofs.ListLemmas.{set_same}
-use Rattle.wx_run.proofs.ListLemmas.{take-snoc, length-take-at, element_at}
+use Rattle.wx_run.proofs.ListLemmas.{take-snoc, length-take-at, element_at, sum_by-less}
 use Rattle.wx_run.proofs.SeenLemmas.{carries_on}
 use Rattle.wx_run.proofs.CursorLemmas.{cursors_from-own, slice_get-cursors_from, length-cursors_from, scripts_in-cursors_from, entries_by-own, entries_by-other}
 use Rattle.wx_run.proofs.HostLemmas.{one_host_more}
-use Rattle.wx_run.proofs.EndLemmas.{spent_behind, unspent_at, unspent-set, spent-set}
+use Rattle.wx_run.proofs.EndLemmas.{spent_behind}
+use Rattle.wx_run.proofs.FirstLemmas.{none_at, none-set, found-set}
 
 -- the endpoint of number i, its cursor, and the cursors behind its turn
 pub record At (scripts : List (List Command)) (i : ℕ) (ps qs : List CursorState) (p q : CursorState) : Type 0 where
@@ -67,7 +68,7 @@ ready_at world scripts i ps qs p q past stand unspent at =
       given = (let all = stand.all_in in omega arith);
       behind = p_is ∙ ap (λ s. cursor_of s (numbered i) past) same_script;
       carries = subst (λ s. CarriesOn s (numbered i) (seen_by (ByContext (numbered i)) past)) same_script (carries_on scripts at.script (numbered i) past at.is_endpoint stand.follows);
-      unspent = unspent_at ps 0 i p unspent at.stands;
+      unspent = none_at is_spent_at ps 0 i p unspent at.stands;
     }
 
 pub Turns-snoc : (ss : List (List Command)) (s : List Command) (n m : ℕ) (a b c : List Entry) → m ≡ n + length ss → Turns ss n a b → Turn s (numbered m) b c → Turns (ss ++ s ∷ []) n a c
@@ -136,7 +137,7 @@ round_moves : (world : WorldLists) (scripts : List (List Command)) (i : ℕ) (ps
     → RoundSoFar world scripts i ps a b moved → At scripts i ps qs p q → Moves world (numbered i) p q b c → is_spent_at q ≡ false → RoundSoFar world scripts (i + 1) qs a c true
 round_moves world scripts i ps qs p q a b c moved so at moves is = record {
   stand = moved_stand world scripts i ps qs p q b c so.stand at moves;
-  unspent = ap (first_spent_in 0) at.changed ∙ unspent-set ps 0 i q at.below so.unspent is;
+  unspent = ap (first_spent_in 0) at.changed ∙ none-set is_spent_at ps 0 i q so.unspent is;
   turns = turns_step scripts i at.script a b c at.is_endpoint so.turns (inl (record { entry = moves.entry; own = moves.own; made = moves.made }));
   idle = tt;
 }
@@ -154,7 +155,7 @@ round_spends world scripts i ps qs p q a b c moved so at moves is =
       made = moves.made;
       turns = turns_step scripts i at.script a b c at.is_endpoint so.turns (inl (record { entry = moves.entry; own = moves.own; made = moves.made }));
       unspent = spent_behind scripts ps b so.stand.behind ∙ so.unspent;
-      spent = spent_behind scripts qs c stand.behind ∙ ap (first_spent_in 0) at.changed ∙ spent-set ps 0 i i q at.below (omega arith) so.unspent is;
+      spent = spent_behind scripts qs c stand.behind ∙ ap (first_spent_in 0) at.changed ∙ found-set is_spent_at ps 0 i i q at.below (omega arith) so.unspent is;
     } in
     (stand, spends)
 
@@ -181,22 +182,14 @@ round_rests world scripts i ps qs p q a b c moved so at rests =
 
 -- ---- fewer entries may still be made
 
-work_in-set : (ps : List CursorState) (i : ℕ) (p q : CursorState) → slice_get ps i ≡ Some p → p.made < entry_limit → q.made ≡ p.made + 1 → work_in (set ps i q) < work_in ps
-work_in-set [] i p q is less more = absurd cc
-work_in-set (r ∷ ps) zero p q is less more =
-    let same : r ≡ p = cc in
-    let made : r.made ≡ p.made = ap (λ (p : CursorState). p.made) same in
-    omega arith
-work_in-set (r ∷ ps) (suc i) p q is less more = omega (arith, work_in-set ps i p q is less more)
-
 moves_less : (world : WorldLists) (scripts : List (List Command)) (i : ℕ) (ps qs : List CursorState) (p q : CursorState) (b c : List Entry) → AllStand world scripts ps b → At scripts i ps qs p q → Moves world (numbered i) p q b c → work_in qs < work_in ps
 moves_less world scripts i ps qs p q b c stand at moves =
     let p_is = stands_at scripts i ps qs p q b stand.behind at in
     let made : p.made ≡ entries_by (numbered i) b = ap (λ (p : CursorState). p.made) p_is in
     let more : q.made ≡ entries_by (numbered i) b + 1 =
     ap (λ (q : CursorState). q.made) moves.behind ∙ ap (entries_by (numbered i)) moves.made ∙ entries_by-own (numbered i) b moves.entry moves.own in
-    let less : p.made < entry_limit = (let below = moves.within_limit in omega arith) in
-    rw at.changed (work_in-set ps i p q at.stands less (omega arith))
+    let less : entry_limit - q.made < entry_limit - p.made = (let below = moves.within_limit in omega arith) in
+    rw at.changed (sum_by-less (λ (cursor : CursorState). entry_limit - cursor.made) ps i p q at.stands less)
 
 -- ---- one more turn, whatever it came to
 
@@ -211,7 +204,7 @@ pub turn_spends : (world : WorldLists) (scripts : List (List Command)) (i : ℕ)
     → RoundSoFar world scripts i ps a b moved → At scripts i ps qs p q → IsStep world (numbered i) p q b c made → is_spent_at q ≡ true → AllStand world scripts qs c × IsRound scripts qs a c (Spent (Endpoint i))
 turn_spends world scripts i ps qs p q a b c moved true so at step is = round_spends world scripts i ps qs p q a b c moved so at step is
 turn_spends world scripts i ps qs p q a b c moved false so at step is =
-    let never : true ≡ false = sym is ∙ ap is_spent_at step.same_cursor ∙ unspent_at ps 0 i p so.unspent at.stands in
+    let never : true ≡ false = sym is ∙ ap is_spent_at step.same_cursor ∙ none_at is_spent_at ps 0 i p so.unspent at.stands in
     absurd cc
 
 turn_falls : (moved : Bool) (old before now : ℕ) → Falls moved old before → now < before → Falls true old now

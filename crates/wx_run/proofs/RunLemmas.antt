@@ -1,15 +1,16 @@
 -- One more round of a run.
-use Rattle.std.proofs.Common.{◌≡◌, ℕ, zero, suc, ◌+◌, ◌-◌, ◌*◌, ◌<◌, ◌≤◌, ◌⊎◌, length, take, cond, arith, true, false, List, [], ◌∷◌, ◌++◌, map, Some, None, refl, sym, ap, ◌∙◌, subst, inl, inr}
+use Rattle.std.proofs.Common.{◌≡◌, ℕ, zero, suc, ◌+◌, ◌-◌, ◌*◌, ◌<◌, ◌≤◌, ◌⊎◌, length, take, cond, arith, true, false, List, [], ◌++◌, map, Some, None, refl, sym, ap, ◌∙◌, subst, inl, inr}
 use Rattle.std.specs.declared.option.Option.{Option}
 use Rattle.std.specs.Prelude.{reverse, Result, Ok, Err, IfOk, OnOk}
 use Rattle.wx_id.specs.declared.texts.NoMemory.{NoMemory}
 use Rattle.std.proofs.lemmas.List.{length-map, reverse-append, reverse-reverse}
+use Rattle.std.proofs.lemmas.List.Elements.{All-take}
 use Rattle.wx_id.specs.declared.numbers.HostNo.{HostNo}
 use Rattle.wx_external.specs.World.{WorldLists}
 use Rattle.wx_machine.specs.declared.entries.Entry.{Entry}
 use Rattle.wx_machine.specs.Words.{hosts, FollowsMachine, EachAfter}
 use Rattle.wx_host_launch.specs.Records.{Writing, StarterState}
-use Rattle.wx_host_slot.specs.Slots.{SlotState, SlotView, slot_of, slots_of, host_limit, closing_record}
+use Rattle.wx_host_slot.specs.Slots.{SlotState, SlotView, WasStarted, slot_of, slots_of, host_limit, closing_record}
 use Rattle.wx_host_slot.specs.Turns.{rested, SaysOrEnds}
 use Rattle.wx_script.specs.declared.script.Command.{Command}
 use Rattle.wx_script.specs.declared.scene.SpentWho.{SpentWho}
@@ -335,12 +336,7 @@ rounds_begin known scripts slots a started = record { now = known; started = sta
 
 -- all that were started are started below any number
 all_below : (known : ℕ) (slots : List SlotState) → known ≤ length slots → AllWereStarted slots → WereStartedBelow known slots
-all_below known slots below all = (below, AllWereStarted-take known slots all)
-  where
-    AllWereStarted-take : (n : ℕ) (slots : List SlotState) → AllWereStarted slots → AllWereStarted (take n slots)
-    AllWereStarted-take zero slots all = tt
-    AllWereStarted-take (suc n) [] all = tt
-    AllWereStarted-take (suc n) (slot ∷ slots) all = (all.0, AllWereStarted-take n slots all.1)
+all_below known slots below all = (below, All-take WasStarted known slots all)
 
 -- what a round leaves where another may begin
 pub ready_again : (writing : Option Writing) (world : WorldLists) (scripts : List (List Command)) (ps : List CursorState) (slots : List SlotState) (past : List Entry) → AllStand world scripts ps past → HostsStand writing world past slots → MayGoOn ps slots past

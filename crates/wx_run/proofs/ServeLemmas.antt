@@ -1,11 +1,14 @@
 -- The hosts' part of a round, turn by turn. Every list of entries has the newest first.
-use Rattle.std.proofs.Common.{◌≡◌, ℕ, zero, suc, ◌+◌, ◌<◌, ◌≤◌, ◌⊎◌, inl, inr, length, take, set, get_or, cond, arith, Bool, true, false, List, [], ◌∷◌, refl, sym, ap, ◌∙◌, subst}
+use Rattle.std.proofs.Common.{◌≡◌, ℕ, suc, ◌+◌, ◌<◌, ◌≤◌, inl, inr, length, take, set, get_or, arith, Bool, true, false, List, ◌∷◌, refl, sym, ap, ◌∙◌, subst}
 use Rattle.std.specs.declared.option.Option.{Option}
 use Rattle.std.specs.Prelude.{◌||◌, not, nat_le, slice_get, Some, None}
-use Rattle.std.proofs.lemmas.Bool.{cases_lt, and_right, true≢false}
+use Rattle.std.specs.List.{All}
+use Rattle.std.specs.Option.{option_map}
+use Rattle.std.proofs.lemmas.Bool.{cases_lt, and_right, true≢false, not-false, not-true}
 use Rattle.std.proofs.lemmas.List.{length-set}
 use Rattle.std.proofs.lemmas.Option.{slice_get_within, slice_get_read}
-use Rattle.std.proofs.Math.Seq.{take-length}
+use Rattle.std.proofs.lemmas.List.Elements.{All-nil, All-push, All-set, All-take}
+use Rattle.std.proofs.Math.Seq.{take-length, take-suc-set}
 use Rattle.wx_id.specs.declared.numbers.HostNo.{HostNo}
 use Rattle.wx_external.specs.World.{WorldLists}
 use Rattle.wx_machine.specs.declared.entries.Entry.{Entry}
@@ -20,78 +23,11 @@ use Rattle.wx_run.specs.declared.rounds.Rounded.TheVariants.{Moved, Idle, Spent}
 use Rattle.wx_run.specs.Hosts.{host_numbered, HaveEnded, IsFirstUnended, HostTurns, is_host_spent, spent_host}
 use Rattle.wx_run.specs.Slots.{HostsStand, AllWereStarted, first_spent_slot, first_unended_slot, all_turns_left, is_moved}
 use Rattle.wx_run.specs.Serving.{SpendsHost, HostsServed, FirstHeard}
-use Rattle.wx_id.proofs.ListLemmas.{set_same}
-use Rattle.wx_run.proofs.ListLemmas.{element_at}
+use Rattle.wx_id.proofs.ListLemmas.{set_same, set_there}
+use Rattle.wx_run.proofs.ListLemmas.{element_at, All-at, All-take-at, sum_by-less}
+use Rattle.wx_run.proofs.FirstLemmas.{none_pass, none_at, none-set, found-set, is_found}
 use Rattle.wx_run.proofs.HostEntries.{Adds, turn_adds, called_so, turn_is_one, says_adds, says_one, adds_hosts, host_turns_stay, hosts_stay}
-use Rattle.wx_run.proofs.SlotLemmas.{ended_so, spent_so, stand_at, hosts_stand_set, spent_is_first, spent_split, unspent_behind}
-
--- ---- lists of slots
-
-pub unspent_slot : (slots : List SlotState) (n i : ℕ) (p : SlotState) → first_spent_slot n slots ≡ None → slice_get slots i ≡ Some p → is_spent_at p ≡ false
-unspent_slot [] n i p none is = absurd cc
-unspent_slot (r ∷ slots) n zero p none is =
-    let same : r ≡ p = cc in
-    subst (λ p. is_spent_at p ≡ false) same (spent_split (is_spent_at r) (host_numbered n) (first_spent_slot (n + 1) slots) none).0
-unspent_slot (r ∷ slots) n (suc i) p none is = unspent_slot slots (n + 1) i p (spent_split (is_spent_at r) (host_numbered n) (first_spent_slot (n + 1) slots) none).1 is
-
--- an unspent slot is set, and none is spent
-pub unspent_set : (slots : List SlotState) (n i : ℕ) (q : SlotState) → first_spent_slot n slots ≡ None → is_spent_at q ≡ false → first_spent_slot n (set slots i q) ≡ None
-unspent_set [] n i q none is = refl
-unspent_set (r ∷ slots) n zero q none is =
-    ap (λ b. cond b (Some (host_numbered n)) (first_spent_slot (n + 1) slots)) is
-    ∙ (spent_split (is_spent_at r) (host_numbered n) (first_spent_slot (n + 1) slots) none).1
-unspent_set (r ∷ slots) n (suc i) q none is =
-    let rest = spent_split (is_spent_at r) (host_numbered n) (first_spent_slot (n + 1) slots) none in
-    ap (λ b. cond b (Some (host_numbered n)) (first_spent_slot (n + 1) (set slots i q))) rest.0 ∙ unspent_set slots (n + 1) i q rest.1 is
-
--- a spent slot is set, and it is the first
-pub spent_set : (slots : List SlotState) (n i m : ℕ) (q : SlotState) → i < length slots → m ≡ n + i → first_spent_slot n slots ≡ None → is_spent_at q ≡ true → first_spent_slot n (set slots i q) ≡ Some (host_numbered m)
-spent_set [] n i m q below at none is = absurd (omega arith)
-spent_set (r ∷ slots) n zero m q below at none is =
-    let here : n ≡ m = omega arith in
-    ap (λ b. cond b (Some (host_numbered n)) (first_spent_slot (n + 1) slots)) is ∙ ap (λ m. Some (host_numbered m)) here
-spent_set (r ∷ slots) n (suc i) m q below at none is =
-    let rest = spent_split (is_spent_at r) (host_numbered n) (first_spent_slot (n + 1) slots) none in
-    let next : m ≡ n + 1 + i = omega arith in
-    ap (λ b. cond b (Some (host_numbered n)) (first_spent_slot (n + 1) (set slots i q))) rest.0 ∙ spent_set slots (n + 1) i m q (omega arith) next rest.1 is
-
--- fewer turns are left of one, and so of all
-pub fewer_left : (slots : List SlotState) (i : ℕ) (p q : SlotState) → slice_get slots i ≡ Some p → turns_left q < turns_left p → all_turns_left (set slots i q) < all_turns_left slots
-fewer_left [] i p q is less = absurd cc
-fewer_left (r ∷ slots) zero p q is less =
-    let same : r ≡ p = cc in
-    let so = ap turns_left same in
-    omega (arith, so, less)
-fewer_left (r ∷ slots) (suc i) p q is less = omega (arith, fewer_left slots i p q is less)
-
--- one of the first slots was started
-started_at : (slots : List SlotState) (known i : ℕ) (p : SlotState) → AllWereStarted (take known slots) → i < known → slice_get slots i ≡ Some p → WasStarted p
-started_at [] known i p all below is = absurd cc
-started_at (r ∷ slots) zero i p all below is = absurd (omega (arith, below))
-started_at (r ∷ slots) (suc known) zero p all below is = let same : r ≡ p = cc in subst WasStarted same all.0
-started_at (r ∷ slots) (suc known) (suc i) p all below is = started_at slots known i p all.1 (omega (arith, below)) is
-
-take_started : (slots : List SlotState) → AllWereStarted slots → AllWereStarted (take (length slots) slots)
-take_started slots all = subst AllWereStarted (sym (take-length slots)) all
-
--- one more slot was started
-started_more : (slots : List SlotState) (i : ℕ) (q : SlotState) → WasStarted q → AllWereStarted (take i slots) → AllWereStarted (take (suc i) (set slots i q))
-started_more [] i q started all = tt
-started_more (r ∷ slots) zero q started all = (started, tt)
-started_more (r ∷ slots) (suc i) q started all = (all.0, started_more slots i q started all.1)
-
-started_set : (slots : List SlotState) (i : ℕ) (q : SlotState) → WasStarted q → AllWereStarted slots → AllWereStarted (set slots i q)
-started_set [] i q started all = tt
-started_set (r ∷ slots) zero q started all = (started, all.1)
-started_set (r ∷ slots) (suc i) q started all = (all.0, started_set slots i q started all.1)
-
--- slots behind the one that is set stay
-later_stay : (slots : List SlotState) (i j : ℕ) (q : SlotState) → i < j → slice_get (set slots i q) j ≡ slice_get slots j
-later_stay [] i j q behind = refl
-later_stay (r ∷ slots) zero zero q behind = absurd (omega (arith, behind))
-later_stay (r ∷ slots) zero (suc j) q behind = refl
-later_stay (r ∷ slots) (suc i) zero q behind = absurd (omega (arith, behind))
-later_stay (r ∷ slots) (suc i) (suc j) q behind = later_stay slots i j q (omega (arith, behind))
+use Rattle.wx_run.proofs.SlotLemmas.{ended_so, spent_so, stand_at, hosts_stand_set, spent_is_first, no_spent_slot, unspent_behind}
 
 -- ---- one host's turn
 
@@ -106,7 +42,7 @@ pub stand_behind : (writing : Option Writing) (world : WorldLists) (i : ℕ) (sl
     → HostsStand writing world b (set slots i q)
 stand_behind writing world i slots a b p q unspent turn so =
     let same = ap (λ (t : StarterState). t.writing) (stand_at writing world a slots 0 i i p so.stand turn.at (omega arith)).alone in
-    hosts_stand_set writing world a b slots i p q so turn.at (unspent_slot slots 0 i p unspent turn.at) turn.adds (subst (λ w. Stands w world b (host_numbered i) q) same turn.stands)
+    hosts_stand_set writing world a b slots i p q so turn.at (none_at is_spent_at slots 0 i p (no_spent_slot slots unspent) turn.at) turn.adds (subst (λ w. Stands w world b (host_numbered i) q) same turn.stands)
 
 -- where its host is spent behind it, that is the first
 pub spent_behind_turn : (writing : Option Writing) (world : WorldLists) (i : ℕ) (slots : List SlotState) (a b : List Entry) (p q : SlotState) → first_spent_slot 0 slots ≡ None → IsTurnOf world i slots a b p q → HostsStand writing world a slots
@@ -115,7 +51,7 @@ spent_behind_turn writing world i slots a b p q unspent turn so all is =
     let kept = ap length (adds_hosts (host_numbered i) a b turn.adds) in
     let size = length-set slots i q in
     spent_is_first writing world b (set slots i q) (stand_behind writing world i slots a b p q unspent turn so) (omega (arith, kept, size, all))
-    ∙ spent_set slots 0 i i q (slice_get_within slots i p turn.at) (omega arith) unspent is
+    ∙ ap (option_map host_numbered) (found-set is_spent_at slots 0 i i q (slice_get_within slots i p turn.at) (omega arith) (no_spent_slot slots unspent) is)
 
 -- ---- a turn by which a host is spent
 
@@ -164,7 +100,7 @@ pub serving_begins : (world : WorldLists) (old : List SlotState) (a : List Entry
 serving_begins world old a unspent = record {
   same_size = refl;
   stand = λ writing so. so;
-  started = tt;
+  started = All-nil WasStarted;
   later = λ j behind. refl;
   turns = λ known first. refl;
   unspent = unspent;
@@ -181,7 +117,7 @@ pub slot_at : (writing : Option Writing) (world : WorldLists) (i : ℕ) (slots :
 slot_at writing world i slots past p so unspent below read =
     let at = slice_get_read slots (length slots) i p refl below read in
     let stands = stand_at writing world past slots 0 i i p so.stand at (omega arith) in
-    record { at = at; stands = subst (λ w. Stands w world past (host_numbered i) p) (ap (λ (t : StarterState). t.writing) (sym stands.alone)) stands; unspent = unspent_slot slots 0 i p unspent at }
+    record { at = at; stands = subst (λ w. Stands w world past (host_numbered i) p) (ap (λ (t : StarterState). t.writing) (sym stands.alone)) stands; unspent = none_at is_spent_at slots 0 i p (no_spent_slot slots unspent) at }
 
 -- What the turn of the next host was and came to.
 pub record IsNextTurn (world : WorldLists) (i : ℕ) (slots : List SlotState) (before after : List Entry) (p q : SlotState) (came : Served) : Type 0 where
@@ -194,10 +130,14 @@ pub record IsNextTurn (world : WorldLists) (i : ℕ) (slots : List SlotState) (b
 pub is_turn : (world : WorldLists) (i : ℕ) (slots : List SlotState) (a b : List Entry) (p q : SlotState) (came : Served) → IsNextTurn world i slots a b p q came → IsTurnOf world i slots a b p q
 is_turn world i slots a b p q came next = record { at = next.at; adds = turn_adds (¬ WasStarted p) (host_numbered i) a b next.turn; stands = next.stands }
 
+-- one more slot was started
+started_more : (slots : List SlotState) (i : ℕ) (q : SlotState) → i < length slots → WasStarted q → AllWereStarted (take i slots) → AllWereStarted (take (suc i) (set slots i q))
+started_more slots i q below started all = subst AllWereStarted (sym (take-suc-set slots i q below)) (All-push WasStarted (take i slots) q all started)
+
 -- a host that was not started is none of the known
 not_known : (known i : ℕ) (old : List SlotState) (p : SlotState) → AllWereStarted (take known old) → slice_get old i ≡ Some p → ¬ WasStarted p → known ≤ i
 not_known known i old p first at waits = elim (cases_lt i known) [
-  | inl before ↦ absurd (waits (started_at old known i p first before at))
+  | inl before ↦ absurd (waits (All-take-at WasStarted old known i p first before at))
   | inr behind ↦ omega (arith, behind)
 ]
 
@@ -225,9 +165,9 @@ rests_on world i old slots a b c p q rest next =
 
 rest_behind : (world : WorldLists) (i : ℕ) (old slots : List SlotState) (a b c : List Entry) (p q : SlotState) (moved : Bool) (came : Served) → RestedUnlessMoved i old slots a b moved → IsNextTurn world i slots b c p q came
     → RestedUnlessMoved (suc i) old (set slots i q) a c (moved || is_moved came)
-rest_behind world i old slots a b c p q true served.Moved rest next = let less = fewer_left slots i p q next.at next.came_to in omega (arith, less, rest)
+rest_behind world i old slots a b c p q true served.Moved rest next = let less = sum_by-less turns_left slots i p q next.at next.came_to in omega (arith, less, rest)
 rest_behind world i old slots a b c p q false served.Moved rest next =
-    let less = fewer_left slots i p q next.at next.came_to in
+    let less = sum_by-less turns_left slots i p q next.at next.came_to in
     let same = ap all_turns_left rest.same_slots in
     omega (arith, less, same)
 rest_behind world i old slots a b c p q true served.Rested rest next =
@@ -242,10 +182,10 @@ turn_served_next : (world : WorldLists) (i : ℕ) (old slots : List SlotState) (
 turn_served_next world i old slots a b c p q moved came so next unspent = record {
   same_size = length-set slots i q ∙ so.same_size;
   stand = λ writing first. stand_behind writing world i slots b c p q so.unspent (is_turn world i slots b c p q came next) (so.stand writing first);
-  started = started_more slots i q next.started so.started;
-  later = λ j behind. later_stay slots i j q (omega (arith, behind)) ∙ so.later j (omega (arith, behind));
+  started = started_more slots i q (slice_get_within slots i p next.at) next.started so.started;
+  later = λ j behind. set_there slots i j q (omega (arith, behind)) ∙ so.later j (omega (arith, behind));
   turns = λ known first. (b, so.turns known first, next_turn world i old slots a b c p q moved came so next known first);
-  unspent = unspent_set slots 0 i q so.unspent unspent;
+  unspent = ap (option_map host_numbered) (none-set is_spent_at slots 0 i q (no_spent_slot slots so.unspent) unspent);
   rest = rest_behind world i old slots a b c p q moved came so.rest next;
 }
 
@@ -265,7 +205,7 @@ turn_spends writing world i old slots a b c p q moved came first all so next is 
     let within = slice_get_within slots i p next.at in
     let stand = so.stand writing first in
     let before = stand_at writing world b slots 0 i i p stand.stand next.at (omega arith) in
-    let one = spends_by_one (¬ WasStarted p) writing p.starter.writing world (host_numbered i) b c p q before (unspent_slot slots 0 i p so.unspent next.at) next.stands is next.turn in
+    let one = spends_by_one (¬ WasStarted p) writing p.starter.writing world (host_numbered i) b c p q before (none_at is_spent_at slots 0 i p (no_spent_slot slots so.unspent) next.at) next.stands is next.turn in
     let spends : SpendsHost (host_numbered i) b c = record {
       last = one.0;
       made = one.1;
@@ -294,59 +234,32 @@ all_rested world i old slots a b all size so known =
 
 -- ---- the first host that has not ended
 
--- the slot at a place is the first whose host has not ended
-pub record IsUnendedAt (n m : ℕ) (slots : List SlotState) : Type 0 where
-  pub i : ℕ
-  pub slot : SlotState
-  pub place : m ≡ n + i
-  pub at : slice_get slots i ≡ Some slot
-  pub unended : slot.ended ≡ false
-  pub first : (j : ℕ) (p : SlotState) → j < i → slice_get slots j ≡ Some p → p.ended ≡ true
-
-unended_split : (b : Bool) (n m : ℕ) (o : Option ℕ) → cond b o (Some n) ≡ Some m → ((b ≡ true) × (o ≡ Some m)) ⊎ ((b ≡ false) × (m ≡ n))
-unended_split true n m o is = inl (refl, is)
-unended_split false n m o is = inr (refl, (let same : m ≡ n = cc in same))
-
-ended_before : (r : SlotState) (slots : List SlotState) (i : ℕ) → r.ended ≡ true → ((j : ℕ) (p : SlotState) → j < i → slice_get slots j ≡ Some p → p.ended ≡ true)
-    → (j : ℕ) (p : SlotState) → j < suc i → slice_get (r ∷ slots) j ≡ Some p → p.ended ≡ true
-ended_before r slots i ended others zero p less is = let same : r ≡ p = cc in subst (λ p. p.ended ≡ true) same ended
-ended_before r slots i ended others (suc j) p less is = others j p (omega (arith, less)) is
-
-pub unended_at : (slots : List SlotState) (n m : ℕ) → first_unended_slot n slots ≡ Some m → IsUnendedAt n m slots
-unended_at [] n m is = absurd cc
-unended_at (r ∷ slots) n m is = elim (unended_split r.ended n m (first_unended_slot (n + 1) slots) is) [
-  | inl (ended, found) ↦
-      let later = unended_at slots (n + 1) m found in
-      record { i = suc later.i; slot = later.slot; place = (let place = later.place in omega arith); at = later.at; unended = later.unended; first = ended_before r slots later.i ended later.first }
-  | inr (unended, here) ↦ record { i = 0; slot = r; place = omega (arith, here); at = refl; unended = unended; first = λ j p less at. absurd (omega arith) }
-]
-
-none_unended : (slots : List SlotState) (n : ℕ) → first_unended_slot n slots ≡ None → (j : ℕ) (p : SlotState) → slice_get slots j ≡ Some p → p.ended ≡ true
-none_unended [] n none j p is = absurd cc
-none_unended (r ∷ slots) n none j p is = elim r.ended as (λ b. r.ended ≡ b → cond b (first_unended_slot (n + 1) slots) (Some n) ≡ None → p.ended ≡ true) [
-  | true ↦ λ ended rest. ended_before r slots (length slots) ended (λ k s less at. none_unended slots (n + 1) rest k s at) j p (slice_get_within (r ∷ slots) j p is) is
-  | false ↦ λ ended never. absurd cc
-] refl none
+abbrev is_unended : SlotState → Bool
+is_unended slot = not slot.ended
 
 -- hosts whose slots have ended have ended
-ended_below : (writing : Option Writing) (world : WorldLists) (past : List Entry) (slots : List SlotState) (n : ℕ) → HostsStand writing world past slots → n ≤ length slots → ((j : ℕ) (p : SlotState) → j < n → slice_get slots j ≡ Some p → p.ended ≡ true)
+ended_below : (writing : Option Writing) (world : WorldLists) (past : List Entry) (slots : List SlotState) (n : ℕ) → HostsStand writing world past slots → n ≤ length slots → All (λ slot. is_unended slot ≡ false) (take n slots)
     → (h : HostNo) → h.0 < n → has_ended past h ≡ true
 ended_below writing world past slots n so within ended h below =
     let (p, is) = element_at slots h.0 (omega (arith, within, below)) in
-    sym (ended_so writing world past h p (stand_at writing world past slots 0 h.0 h.0 p so.stand is (omega arith))) ∙ ended h.0 p below is
+    sym (ended_so writing world past h p (stand_at writing world past slots 0 h.0 h.0 p so.stand is (omega arith)))
+    ∙ not-false p.ended (All-take-at (λ slot. is_unended slot ≡ false) slots n h.0 p ended below is)
 
 pub all_ended : (writing : Option Writing) (world : WorldLists) (past : List Entry) (slots : List SlotState) → HostsStand writing world past slots → length slots ≡ length (hosts past) → first_unended_slot 0 slots ≡ None → HaveEnded past
-all_ended writing world past slots so all none h below = ended_below writing world past slots (length slots) so (omega arith) (λ j p less is. none_unended slots 0 none j p is) h (omega (arith, all, below))
+all_ended writing world past slots so all none h below =
+    let ended = none_pass is_unended slots 0 none in
+    ended_below writing world past slots (length slots) so (omega arith) (All-take (λ slot. is_unended slot ≡ false) (length slots) slots ended) h (omega (arith, all, below))
 
 pub is_first_unended : (writing : Option Writing) (world : WorldLists) (past : List Entry) (slots : List SlotState) (m : ℕ) → HostsStand writing world past slots → first_unended_slot 0 slots ≡ Some m → IsFirstUnended past (host_numbered m)
 is_first_unended writing world past slots m so found =
-    let first = unended_at slots 0 m found in
-    let within = slice_get_within slots first.i first.slot first.at in
+    let first = is_found is_unended slots 0 m found in
+    let within = slice_get_within slots first.i first.element first.at in
     let place = first.place in
+    let here : first.i ≡ m = omega arith in
     record {
       is_host = omega (arith, so.below, within, place);
-      unended = sym (ended_so writing world past (host_numbered m) first.slot (stand_at writing world past slots 0 first.i m first.slot so.stand first.at first.place)) ∙ first.unended;
-      first = ended_below writing world past slots m so (omega (arith, within, place)) (λ j p less is. first.first j p (omega (arith, less, place)) is);
+      unended = sym (ended_so writing world past (host_numbered m) first.element (stand_at writing world past slots 0 first.i m first.element so.stand first.at first.place)) ∙ not-true first.element.ended first.passes;
+      first = ended_below writing world past slots m so (omega (arith, within, place)) (subst (λ n. All (λ slot. is_unended slot ≡ false) (take n slots)) here first.first);
     }
 
 -- What the turn of the first host was.
@@ -374,7 +287,7 @@ first_slot writing world i slots past p so all unspent started found read =
       slot = slot;
       first = first;
       unended = ended_so p.starter.writing world past (host_numbered i) p slot.stands ∙ first.unended;
-      started = started_at slots (length slots) i p (take_started slots started) (slice_get_within slots i p slot.at) slot.at;
+      started = All-at WasStarted slots i p started slot.at;
     }
 
 pub heard_turn : (world : WorldLists) (i : ℕ) (slots : List SlotState) (a b : List Entry) (p q : SlotState) → IsHeardTurn world i slots a b p q → IsTurnOf world i slots a b p q
@@ -383,7 +296,7 @@ heard_turn world i slots a b p q heard = record { at = heard.at; adds = says_add
 pub heard_moved : (world : WorldLists) (i : ℕ) (slots : List SlotState) (a b : List Entry) (p q : SlotState) → first_spent_slot 0 slots ≡ None → AllWereStarted slots → IsHeardTurn world i slots a b p q → is_spent_at q ≡ false
     → FirstHeard a b slots (set slots i q) Moved
 heard_moved world i slots a b p q unspent started heard is =
-    ((host_numbered i, heard.first, heard.turn), unspent_set slots 0 i q unspent is, started_set slots i q heard.started started, fewer_left slots i p q heard.at heard.less)
+    ((host_numbered i, heard.first, heard.turn), ap (option_map host_numbered) (none-set is_spent_at slots 0 i q (no_spent_slot slots unspent) is), All-set WasStarted slots i q heard.started started, sum_by-less turns_left slots i p q heard.at heard.less)
 
 pub heard_spent : (writing : Option Writing) (world : WorldLists) (i : ℕ) (slots : List SlotState) (a b : List Entry) (p q : SlotState) → HostsStand writing world a slots → length slots ≡ length (hosts a) → first_spent_slot 0 slots ≡ None
     → IsHeardTurn world i slots a b p q → is_spent_at q ≡ true → FirstHeard a b slots (set slots i q) (Spent (Host (host_numbered i)))

@@ -2,6 +2,8 @@
 use Rattle.std.proofs.Common.{◌≡◌, ◌≢◌, ℕ, zero, suc, ◌+◌, ◌<◌, ◌≤◌, ◌⊎◌, inl, inr, length, map, set, cond, arith, Bool, true, false, List, [], ◌∷◌, ◌++◌, Some, None, refl, sym, ap, ◌∙◌, subst}
 use Rattle.std.specs.declared.option.Option.{Option}
 use Rattle.std.specs.Prelude.{slice_get, not, ◌&&◌, nat_le, option_to_list}
+use Rattle.std.specs.List.{All, position_from}
+use Rattle.std.proofs.lemmas.List.Elements.{All-head, All-tail}
 use Rattle.std.proofs.lemmas.Bool.{cases_eq, leb-false}
 use Rattle.std.proofs.lemmas.List.{length-append, length-set}
 use Rattle.std.proofs.lemmas.Option.{slice_get_within}
@@ -18,6 +20,7 @@ use Rattle.wx_run.specs.Hosts.{host_numbered, HaveEnded, is_host_spent, spent_ho
 use Rattle.wx_run.specs.Slots.{SlotsStand, HostsStand, first_spent_slot}
 use Rattle.wx_host_slot.proofs.JournalLemmas.{none_ended}
 use Rattle.wx_host_slot.proofs.StandsLater.{stands_later, meets_at_end, waiting_stands}
+use Rattle.wx_run.proofs.FirstLemmas.{none_pass, none_mapped, option_map-cond}
 pub use Rattle.wx_run.proofs.HostEntries.{Adds, AreOfHost, hosts_newer, adds_hosts, adds_entries, adds_at_most, by_other_host, GrowsByHosts, host_turns_stay, hosts_stay}
 
 -- ---- one slot
@@ -189,14 +192,15 @@ spent_from writing world past n [] stand = refl
 spent_from writing world past n (p ∷ slots) stand =
     ap (λ b. cond b (Some (host_numbered n)) (spent_host_from (length slots) (n + 1) past)) (spent_so writing world past (host_numbered n) p stand.0)
     ∙ ap (λ o. cond (is_spent_at p) (Some (host_numbered n)) o) (spent_from writing world past (n + 1) slots stand.1)
+    ∙ sym (option_map-cond host_numbered (is_spent_at p) n (position_from is_spent_at (n + 1) slots))
 
 -- the slots tell which host is the first that is spent
 pub spent_is_first : (writing : Option Writing) (world : WorldLists) (past : List Entry) (slots : List SlotState) → HostsStand writing world past slots → length slots ≡ length (hosts past) → spent_host past ≡ first_spent_slot 0 slots
 spent_is_first writing world past slots so all = ap (λ n. spent_host_from n 0 past) (sym all) ∙ spent_from writing world past 0 slots so.stand
 
-pub spent_split : (b : Bool) (h : HostNo) (o : Option HostNo) → cond b (Some h) o ≡ None → (b ≡ false) × (o ≡ None)
-spent_split true h o is = absurd cc
-spent_split false h o is = (refl, is)
+-- where no slot's host is spent, none is found
+pub no_spent_slot : (slots : List SlotState) → first_spent_slot 0 slots ≡ None → position_from is_spent_at 0 slots ≡ None
+no_spent_slot slots unspent = none_mapped host_numbered (position_from is_spent_at 0 slots) unspent
 
 -- hosts that made no entry are not spent
 unspent_beyond : (past : List Entry) (n count : ℕ) → ((h : HostNo) → n ≤ h.0 → entries_of h past ≡ 0) → spent_host_from count n past ≡ None
@@ -206,14 +210,16 @@ unspent_beyond past n (suc count) none =
     ap (λ b. cond b (Some (host_numbered n)) (spent_host_from count (n + 1) past)) first ∙ unspent_beyond past (n + 1) count (λ h above. none h (omega (arith, above)))
 
 unspent_from : (writing : Option Writing) (world : WorldLists) (past : List Entry) (n count : ℕ) (slots : List SlotState) → SlotsStand writing world past n slots → length slots ≤ count → ((h : HostNo) → n + length slots ≤ h.0 → entries_of h past ≡ 0)
-    → first_spent_slot n slots ≡ None → spent_host_from count n past ≡ None
+    → All (λ slot. is_spent_at slot ≡ false) slots → spent_host_from count n past ≡ None
 unspent_from writing world past n count [] stand most none unspent = unspent_beyond past n count (λ h above. none h (omega (arith, above)))
 unspent_from writing world past n zero (p ∷ slots) stand most none unspent = absurd (omega (arith, most))
 unspent_from writing world past n (suc count) (p ∷ slots) stand most none unspent =
-    let rest = spent_split (is_spent_at p) (host_numbered n) (first_spent_slot (n + 1) slots) unspent in
-    ap (λ b. cond b (Some (host_numbered n)) (spent_host_from count (n + 1) past)) (spent_so writing world past (host_numbered n) p stand.0 ∙ rest.0)
-    ∙ unspent_from writing world past (n + 1) count slots stand.1 (omega (arith, most)) (λ h above. none h (omega (arith, above))) rest.1
+    let first = All-head (λ slot. is_spent_at slot ≡ false) p slots unspent in
+    let rest = All-tail (λ slot. is_spent_at slot ≡ false) p slots unspent in
+    ap (λ b. cond b (Some (host_numbered n)) (spent_host_from count (n + 1) past)) (spent_so writing world past (host_numbered n) p stand.0 ∙ first)
+    ∙ unspent_from writing world past (n + 1) count slots stand.1 (omega (arith, most)) (λ h above. none h (omega (arith, above))) rest
 
 -- where no slot's host is spent, no host is: those without a slot made no entry
 pub unspent_behind : (writing : Option Writing) (world : WorldLists) (past : List Entry) (slots : List SlotState) → HostsStand writing world past slots → first_spent_slot 0 slots ≡ None → spent_host past ≡ None
-unspent_behind writing world past slots so unspent = unspent_from writing world past 0 (length (hosts past)) slots so.stand so.below (λ h above. so.none_beyond h (omega (arith, above))) unspent
+unspent_behind writing world past slots so unspent =
+    unspent_from writing world past 0 (length (hosts past)) slots so.stand so.below (λ h above. so.none_beyond h (omega (arith, above))) (none_pass is_spent_at slots 0 (no_spent_slot slots unspent))

@@ -1,6 +1,6 @@
 -- Where the cursors of all endpoints stand. Every list of entries has the newest first.
-use Rattle.std.specs.Prelude.{◌≡◌, ℕ, ◌+◌, ◌-◌, Bool, ◌&&◌, not, List, [], ◌∷◌, map, Option, Some, None, nat_le, if◌then◌else◌}
-use Rattle.std.specs.List.{list_all}
+use Rattle.std.specs.Prelude.{◌≡◌, ℕ, ◌+◌, ◌-◌, Bool, ◌&&◌, not, List, [], ◌∷◌, map, Option, nat_le}
+use Rattle.std.specs.List.{list_all, position_from, sum_by}
 use Rattle.wx_id.specs.declared.numbers.ContextNo.{ContextNo}
 use Rattle.wx_machine.specs.declared.entries.Entry.{Entry}
 use Rattle.wx_script.specs.declared.script.Command.{Command}
@@ -35,8 +35,7 @@ is_spent_at cursor = nat_le entry_limit cursor.made && not (is_left cursor.place
 
 -- the first of these cursors, numbered from n, that is spent
 abbrev pub first_spent_in : ℕ → List CursorState → Option ℕ
-first_spent_in n [] = None
-first_spent_in n (cursor ∷ cursors) = if is_spent_at cursor then Some n else first_spent_in (n + 1) cursors
+first_spent_in n cursors = position_from is_spent_at n cursors
 
 -- each cursor stands behind its endpoint's `leave`
 abbrev pub all_left : List CursorState → Bool
@@ -44,5 +43,4 @@ all_left cursors = list_all (λ (cursor : CursorState). is_left cursor.place) cu
 
 -- how many entries the endpoints may still make
 abbrev pub work_in : List CursorState → ℕ
-work_in [] = 0
-work_in (cursor ∷ cursors) = (entry_limit - cursor.made) + work_in cursors
+work_in cursors = sum_by (λ (cursor : CursorState). entry_limit - cursor.made) cursors

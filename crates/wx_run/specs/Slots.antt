@@ -1,5 +1,7 @@
 -- How the slots of a run's hosts stand to the journal. Every list of entries has the newest first.
-use Rattle.std.specs.Prelude.{◌≡◌, ℕ, ◌+◌, ◌≤◌, length, take, List, [], ◌∷◌, ◌++◌, Bool, true, false, Option, Some, None, if◌then◌else◌}
+use Rattle.std.specs.Prelude.{◌≡◌, ℕ, ◌+◌, ◌≤◌, length, take, List, [], ◌∷◌, ◌++◌, Bool, true, false, not, Option}
+use Rattle.std.specs.List.{All, position_from, sum_by}
+use Rattle.std.specs.Option.{option_map}
 use Rattle.wx_id.specs.declared.numbers.HostNo.{HostNo}
 use Rattle.wx_external.specs.World.{WorldLists}
 use Rattle.wx_machine.specs.declared.entries.Entry.{Entry}
@@ -27,8 +29,7 @@ pub record HostsStand (writing : Option Writing) (world : WorldLists) (past : Li
 
 -- the program of each slot's host was started, or could not be
 abbrev pub AllWereStarted : List SlotState → Type 0
-AllWereStarted [] = Unit {0}
-AllWereStarted (slot ∷ slots) = WasStarted slot × AllWereStarted slots
+AllWereStarted slots = All WasStarted slots
 
 -- the same of so many slots, the first
 abbrev pub WereStartedBelow : ℕ → List SlotState → Type 0
@@ -36,18 +37,15 @@ WereStartedBelow known slots = (known ≤ length slots) × AllWereStarted (take 
 
 -- the first of these slots, numbered from n, whose host is spent
 abbrev pub first_spent_slot : ℕ → List SlotState → Option HostNo
-first_spent_slot n [] = None
-first_spent_slot n (slot ∷ slots) = if is_spent_at slot then Some (host_numbered n) else first_spent_slot (n + 1) slots
+first_spent_slot n slots = option_map host_numbered (position_from is_spent_at n slots)
 
 -- the place of the first of these slots, numbered from n, whose host has not ended
 abbrev pub first_unended_slot : ℕ → List SlotState → Option ℕ
-first_unended_slot n [] = None
-first_unended_slot n (slot ∷ slots) = if slot.ended then first_unended_slot (n + 1) slots else Some n
+first_unended_slot n slots = position_from (λ (slot : SlotState). not slot.ended) n slots
 
 -- more than as many turns as the hosts of these slots may still make
 abbrev pub all_turns_left : List SlotState → ℕ
-all_turns_left [] = 0
-all_turns_left (slot ∷ slots) = turns_left slot + all_turns_left slots
+all_turns_left slots = sum_by turns_left slots
 
 -- slots were added behind the old ones
 abbrev pub AddsBehind : List SlotState → List SlotState → Type 0
