@@ -5,7 +5,7 @@ use std::alloc::AllocError;
 use std::env;
 use std::io::ErrorKind;
 use std::process::ExitCode;
-use wx_children::{ChildStarter, SILENCE, silence_of};
+use wx_children::{SILENCE, silence_of, starter_of};
 use wx_cmd::wx;
 use wx_outside::{FileShelf, Sink, StreamSink};
 use wx_status::Status;
@@ -37,9 +37,9 @@ fn main(rt: HostRuntime) -> ExitCode {
     let mut shelf = FileShelf::new(&rt);
     let mut out = StreamSink::new(rt.stdout());
     let mut err = StreamSink::new(rt.stderr());
-    let mut starter = ChildStarter::new(rt, rt.alloc(), silence(&rt));
-    let status = match words(&rt) {
-        Ok(words) => wx(
+    let starter = starter_of(rt, rt.alloc(), silence(&rt));
+    let status = match (words(&rt), starter) {
+        (Ok(words), Ok(mut starter)) => wx(
             rt.alloc(),
             &words,
             &mut shelf,
@@ -47,7 +47,7 @@ fn main(rt: HostRuntime) -> ExitCode {
             &mut out,
             &mut err,
         ),
-        Err(AllocError) => {
+        _ => {
             let _ = err.write(b"wx: no memory\n");
             Status::NoMemory
         }

@@ -1,5 +1,5 @@
 //! The command that starts a host's program.
-ghost use Rattle.std.specs.Prelude.{◌≡◌, ◌≤◌, take, IfOk};
+ghost use Rattle.std.specs.Prelude.{◌≡◌, IfOk};
 ghost use Rattle.std.specs.Process.{command_program, command_args};
 
 use std::alloc::{AllocError, Global};
@@ -15,18 +15,32 @@ fn folder_of(path: &str) -> &str {
     }
 }
 
-/// The command that starts this program with these arguments in its own folder, with two pipes. What it writes on its
-/// standard error goes to that of this process.
-pub(crate) fn command_of(alloc: Global, path: &str, arguments: &Arguments) -> Result<Command, AllocError>
+/// A command with these arguments.
+#[tactic(auto, using(crate::proofs::CommandLemmas::next_argument, wx_host_launch::proofs::PipeLemmas::take_whole))]
+fn with_arguments(alloc: Global, path: &str, arguments: &Arguments) -> Result<Command, AllocError>
     ensures program { IfOk result (λ c. command_program c ≡ path.now) }
     ensures arguments { IfOk result (λ c. command_args c ≡ arguments.now) }
 {
     let mut command = Command::new(alloc, path)?;
-    for i in 0..arguments.count() {
-        if let Some(text) = arguments.get(i) {
-            command.arg(text)?;
-        }
+    let mut at = 0;
+    while let Some(text) = arguments.get(at) {
+        command.arg(text)?;
+        at += 1;
     }
+    Ok(command)
+}
+
+/// The command that starts this program with these arguments in its own folder, with two pipes. What it writes on its
+/// standard error goes to that of this process.
+pub(crate) fn command_of(
+    alloc: Global,
+    path: &str,
+    arguments: &Arguments,
+) -> Result<Command, AllocError>
+    ensures program { IfOk result (λ c. command_program c ≡ path.now) }
+    ensures arguments { IfOk result (λ c. command_args c ≡ arguments.now) }
+{
+    let mut command = with_arguments(alloc, path, arguments)?;
     command.current_dir(folder_of(path))?;
     command
         .stdin(Stdio::piped())

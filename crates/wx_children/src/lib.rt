@@ -5,7 +5,8 @@
 mod carriers;
 mod command;
 mod pipes;
+mod porter;
 mod starter;
 
 pub use pipes::{ChildIn, ChildOut};
-pub use starter::{ChildStarter, Counts, SILENCE, silence_of};
+pub use starter::{ChildStarter, Counts, SILENCE, silence_of, starter_of};

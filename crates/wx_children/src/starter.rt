@@ -4,15 +4,16 @@ ghost use Rattle.std.specs.Vec.{vec_len, vec_capacity};
 ghost use Rattle.wx_children.specs.Counts.{record_of, fresh_starter};
 ghost use Rattle.wx_host_launch.specs.Records.{faults_in};
 
-use crate::carriers::{Came, Gauges, pause, read_ahead, write_on};
+use crate::carriers::{Gauges, pause};
 use crate::command::command_of;
 use crate::pipes::{ChildIn, ChildOut};
-use crossbeam_channel::{Receiver, Sender, unbounded};
+use crate::porter::{Far, Load, Near, make_lines, start_porter};
+use crossbeam_channel::Sender;
 use std::alloc::Global;
 use std::io::ErrorKind;
-use std::process::{Child, ChildStdin, ChildStdout, Processes, SystemProcess};
+use std::process::{Child, Processes, SystemProcess};
+use std::sync::Wait;
 use std::sync::atomic::Ordering;
-use std::sync::{Arc, Wait};
 use std::thread::{self, Threads};
 use std::time::{Clock, Duration};
 use wx_host_launch::{Arguments, HostIn, HostOut, StartFault, Starter};
@@ -69,6 +70,7 @@ pub struct ChildStarter<R: Drop> {
     rt: R,
     alloc: Global,
     silence: Duration,
+    porter: Sender<Load>,
     child: Option<Child<SystemProcess>>,
     slot: Counts,
     records: Vec<Counts>,
@@ -77,99 +79,24 @@ pub struct ChildStarter<R: Drop> {
     ghost kept: { vec_len records + places ≤ vec_capacity records },
 }
 
-impl<R: Drop> ChildStarter<R> {
-    /// A starter over these processes, whose children may be silent for so many seconds. Nothing was started.
-    pub fn new(rt: R, alloc: Global, seconds: u64) -> Self {
-        ChildStarter {
-            rt,
-            alloc,
-            silence: Duration::from_secs(seconds),
-            child: None,
-            slot: NONE,
-            records: Vec::new(alloc),
-            places: 0,
-            taken_over: 0,
-        }
-    }
-}
-
-/// The channels between the two ends of a child's pipes and the threads at the pipes.
-#[derive(Drop)]
-struct Lines {
-    to: Sender<Vec<u8>>,
-    bytes: Receiver<Vec<u8>>,
-    tell: Sender<bool>,
-    told: Receiver<bool>,
-    give: Sender<Came>,
-    from: Receiver<Came>,
-    gauges: Arc<Gauges, Global>,
-    theirs: Arc<Gauges, Global>,
-    others: Arc<Gauges, Global>,
-    last: Arc<Gauges, Global>,
-}
-
-fn make_lines(alloc: Global) -> Result<Lines, NoMemory> {
-    let Ok((to, bytes)) = unbounded(alloc) else {
-        return Err(NoMemory);
-    };
-    let Ok((tell, told)) = unbounded(alloc) else {
-        return Err(NoMemory);
-    };
-    let Ok((give, from)) = unbounded(alloc) else {
-        return Err(NoMemory);
-    };
-    let Ok(gauges) = Arc::new(alloc, Gauges::new()) else {
-        return Err(NoMemory);
-    };
-    let (Ok(theirs), Ok(others), Ok(last)) = (
-        Arc::try_clone(&gauges),
-        Arc::try_clone(&gauges),
-        Arc::try_clone(&gauges),
-    ) else {
-        return Err(NoMemory);
-    };
-    Ok(Lines {
-        to,
-        bytes,
-        tell,
-        told,
-        give,
-        from,
-        gauges,
-        theirs,
-        others,
-        last,
-    })
-}
-
-/// Starts a thread that reads ahead, and says whether it did.
-fn read_in_thread<R: Threads + Wait + Clock + Copy + Send + Drop + 'static>(
+/// A starter over these processes, whose children may be silent for so many seconds. Nothing was started.
+pub fn starter_of<R: Threads + Wait + Clock + Copy + Send + Drop + 'static>(
     rt: R,
     alloc: Global,
-    output: ChildStdout,
-    give: Sender<Came>,
-    gauges: Arc<Gauges, Global>,
-) -> bool {
-    thread::spawn(&rt, move || {
-        read_ahead(&rt, alloc, output, give, &gauges);
-        gauges.done.fetch_add(1, Ordering::SeqCst);
+    seconds: u64,
+) -> Result<ChildStarter<R>, NoMemory> {
+    let porter = start_porter(rt, alloc)?;
+    Ok(ChildStarter {
+        rt,
+        alloc,
+        silence: Duration::from_secs(seconds),
+        porter,
+        child: None,
+        slot: NONE,
+        records: Vec::new(alloc),
+        places: 0,
+        taken_over: 0,
     })
-    .is_ok()
-}
-
-/// Starts a thread that writes, and says whether it did.
-fn write_in_thread<R: Threads + Wait + Clock + Copy + Send + Drop + 'static>(
-    rt: R,
-    input: ChildStdin,
-    bytes: Receiver<Vec<u8>>,
-    tell: Sender<bool>,
-    gauges: Arc<Gauges, Global>,
-) -> bool {
-    thread::spawn(&rt, move || {
-        write_on(&rt, input, bytes, tell, &gauges);
-        gauges.done.fetch_add(1, Ordering::SeqCst);
-    })
-    .is_ok()
 }
 
 /// Ends a child: it has two seconds of its own, unless it is to be ended at once; it is waited for.
@@ -199,39 +126,44 @@ fn see_off<R: Clock>(rt: &R, gauges: &Gauges) {
     }
 }
 
-/// Puts threads at the pipes of a child, and hands out the two ends.
-fn ends_of<R: Threads + Wait + Clock + Copy + Send + Drop + 'static>(
+/// Hands the pipes of a child over to the threads that carry. A child whose pipes cannot be handed over is ended.
+fn carried<R: Wait + Clock>(
+    rt: &R,
+    porter: &Sender<Load>,
+    mut child: Child<SystemProcess>,
+    far: Far,
+) -> Option<Child<SystemProcess>> {
+    if let (Some(input), Some(output)) = (child.stdin.take(), child.stdout.take()) {
+        let load = Load { input, output, far };
+        if porter.send(rt, load).is_ok() {
+            return Some(child);
+        }
+    }
+    end(rt, &mut child, true);
+    None
+}
+
+/// The two ends of a child's pipes.
+fn ends_of<R: Copy + Drop>(
     rt: R,
     alloc: Global,
     silence: Duration,
-    lines: Lines,
-    input: ChildStdin,
-    output: ChildStdout,
-) -> Option<(ChildIn<R>, ChildOut<R>)> {
-    let Lines {
+    near: Near,
+) -> (ChildIn<R>, ChildOut<R>) {
+    let Near {
         to,
-        bytes,
-        tell,
         told,
-        give,
         from,
-        gauges,
-        theirs,
-        others,
-        last,
-    } = lines;
-    if !read_in_thread(rt, alloc, output, give, theirs)
-        || !write_in_thread(rt, input, bytes, tell, others)
-    {
-        return None;
-    }
+        of_input,
+        of_output,
+    } = near;
     let input = ChildIn {
         rt,
         alloc,
         silence,
         to: Some(to),
         told,
-        gauges,
+        gauges: of_input,
         lost: false,
         faults: 0,
     };
@@ -239,20 +171,18 @@ fn ends_of<R: Threads + Wait + Clock + Copy + Send + Drop + 'static>(
         rt,
         silence,
         from,
-        gauges: last,
+        gauges: of_output,
         piece: Vec::new(alloc),
         at: 0,
         ended: false,
         silent: false,
         faults: 0,
     };
-    Some((input, output))
+    (input, output)
 }
 
-impl<
-    R: Processes<Started = SystemProcess> + Threads + Wait + Clock + Copy + Send + Drop + 'static,
-> Starter for ChildStarter<R>
-{
+impl<R: Processes<Started = SystemProcess> + Wait + Clock + Copy + Send + Drop> Starter
+    for ChildStarter<R> {
     type In = ChildIn<R>;
 
     type Out = ChildOut<R>;
@@ -277,20 +207,16 @@ impl<
         let Ok(mut command) = command_of(self.alloc, path, arguments) else {
             return Err(StartFault::NoMemory);
         };
-        let Ok(lines) = make_lines(self.alloc) else {
+        let Ok((near, far)) = make_lines(self.alloc) else {
             return Err(StartFault::NoMemory);
         };
         match command.spawn(&self.rt) {
-            Ok(mut child) => {
-                if let (Some(input), Some(output)) = (child.stdin.take(), child.stdout.take()) {
-                    if let Some(ends) = ends_of(self.rt, self.alloc, self.silence, lines, input, output)
-                    {
-                        self.slot.starts = self.slot.starts.saturating_add(1);
-                        self.child = Some(child);
-                        return Ok(ends);
-                    }
+            Ok(child) => {
+                if let Some(child) = carried(&self.rt, &self.porter, child, far) {
+                    self.slot.starts = self.slot.starts.saturating_add(1);
+                    self.child = Some(child);
+                    return Ok(ends_of(self.rt, self.alloc, self.silence, near));
                 }
-                end(&self.rt, &mut child, true);
             }
             Err(e) if e.kind() == ErrorKind::OutOfMemory => return Err(StartFault::NoMemory),
             Err(_) => {}
@@ -304,11 +230,15 @@ impl<
         if self.records.reserve(self.places + 1).is_err() {
             return Err(NoMemory);
         }
+        let Ok(porter) = self.porter.clone() else {
+            return Err(NoMemory);
+        };
         self.places += 1;
         Ok(ChildStarter {
             rt: self.rt,
             alloc: self.alloc,
             silence: self.silence,
+            porter,
             child: None,
             slot: NONE,
             records: Vec::new(self.alloc),
