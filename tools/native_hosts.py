@@ -47,11 +47,11 @@ def cases():
     yield "exits before it reads", "#!/bin/sh\nexit 3\n", large(200000), ["write_failed"], 5, []
     yield "ended by a signal", "#!/bin/sh\nkill -9 $$\n", sent, ["exited", "write_failed"], 5, []
     yield "half a head", PYTHON + READ + "os.write(1, b'ab')\n", sent, ["cut 2"], 5, []
-    yield "half a frame", PYTHON + READ + "os.write(1, b'\\5\\0\\0\\0ab')\n", sent, ["cut 6"], 5, []
-    yield "half a frame, then silence", PYTHON + READ + "os.write(1, b'\\5\\0\\0\\0ab')\ntime.sleep(30)\n", sent, [
-        "cut 6"], 6, []
+    yield "half a frame", PYTHON + READ + "os.write(1, b'\\5\\0\\0\\0\"ab')\n", sent, ["cut 7"], 5, []
+    yield "half a frame, then silence", PYTHON + READ + "os.write(1, b'\\5\\0\\0\\0\"ab')\ntime.sleep(30)\n", sent, [
+        "cut 7"], 6, []
     yield "no JSON", PYTHON + READ + "os.write(1, b'\\1\\0\\0\\0x')\ntime.sleep(30)\n", sent, ["bad_json 0 syntax"], 6, []
-    yield "writes text without end", "#!/bin/sh\nexec yes\n", sent, ["too_long 175728249"], 6, []
+    yield "writes text without end", "#!/bin/sh\nexec yes\n", sent, ["too_long 175704697"], 6, []
     yield "writes frames without end", PYTHON + SAY + "while True: say(b'1')\n", sent, ["closed"], 6, [
         "h0 host_said 1:1 -> passed"]
     yield "never reads", "#!/bin/sh\nexec sleep 30\n", large(200000), ["write_failed"], 8, []
@@ -101,13 +101,17 @@ def fault_of(program, host, message, ends, seconds, words):
         scene = write_scene(folder, program_of(folder, host), message)
         environment = dict(os.environ, WX_HOST_SECONDS=SECONDS, WX_SEEN="kept")
         begin = time.perf_counter()
-        try:
-            run = subprocess.run([program, "run", "--rounds", "-"], input=scene.encode(), cwd=folder, timeout=60,
-                                 stdout=subprocess.PIPE, stderr=subprocess.PIPE, env=environment)
-        except subprocess.TimeoutExpired:
-            return "it did not end within 60 s"
-        took = time.perf_counter() - begin
-        journal, noise = run.stdout.decode(errors="replace"), run.stderr.decode(errors="replace")
+        # Files and no pipes, which a child of a host would hold open behind the end of the run.
+        with tempfile.TemporaryFile() as out, tempfile.TemporaryFile() as err:
+            try:
+                run = subprocess.run([program, "run", "--rounds", "-"], input=scene.encode(), cwd=folder, timeout=60,
+                                     stdout=out, stderr=err, env=environment)
+            except subprocess.TimeoutExpired:
+                return "it did not end within 60 s"
+            took = time.perf_counter() - begin
+            out.seek(0)
+            err.seek(0)
+            journal, noise = out.read().decode(errors="replace"), err.read().decode(errors="replace")
         found = ends_of(journal)
         if run.returncode != 0:
             return f"status {run.returncode}: {noise[:200]}"
