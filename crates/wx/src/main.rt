@@ -5,8 +5,8 @@ use std::alloc::AllocError;
 use std::env;
 use std::io::ErrorKind;
 use std::process::ExitCode;
+use wx_children::{SILENCE, silence_of, starter_of};
 use wx_cmd::wx;
-use wx_host_launch::MemoryStarter;
 use wx_outside::{FileShelf, Sink, StreamSink};
 use wx_status::Status;
 
@@ -25,14 +25,21 @@ fn words(rt: &HostRuntime) -> Result<Vec<String>, AllocError> {
     }
 }
 
+/// How many seconds a host's program may be silent while it is waited for.
+fn silence(rt: &HostRuntime) -> u64 {
+    match env::var(rt, "WX_HOST_SECONDS") {
+        Ok(text) => silence_of(text.as_str()),
+        Err(_) => SILENCE,
+    }
+}
+
 fn main(rt: HostRuntime) -> ExitCode {
     let mut shelf = FileShelf::new(&rt);
     let mut out = StreamSink::new(rt.stdout());
     let mut err = StreamSink::new(rt.stderr());
-    // No program is started yet: without children each start fails.
-    let mut starter = MemoryStarter::new(rt.alloc(), &[], 0);
-    let status = match words(&rt) {
-        Ok(words) => wx(
+    let starter = starter_of(rt, rt.alloc(), silence(&rt));
+    let status = match (words(&rt), starter) {
+        (Ok(words), Ok(mut starter)) => wx(
             rt.alloc(),
             &words,
             &mut shelf,
@@ -40,7 +47,7 @@ fn main(rt: HostRuntime) -> ExitCode {
             &mut out,
             &mut err,
         ),
-        Err(AllocError) => {
+        _ => {
             let _ = err.write(b"wx: no memory\n");
             Status::NoMemory
         }
