@@ -1,11 +1,7 @@
 -- The arguments of a command, one after another.
-use Rattle.std.proofs.Common.{◌≡◌, ℕ, zero, suc, ◌+◌, List, [], ◌∷◌, ◌++◌, take, Some, refl, ap, sym, ◌∙◌, arith}
+use Rattle.std.proofs.Common.{◌≡◌, ℕ, ◌+◌, List, [], ◌∷◌, ◌++◌, take, Some, ap, sym, ◌∙◌}
 use Rattle.std.specs.Prelude.{slice_get}
-
-take_next : {A : Type 0} (xs : List A) (n : ℕ) (x : A) → slice_get xs n ≡ Some x → take (n + 1) xs ≡ take n xs ++ x ∷ []
-take_next [] n x e = absurd cc
-take_next (y ∷ xs) zero x e = let same : y ≡ x = cc in ap (λ z. z ∷ []) same
-take_next (y ∷ xs) (suc n) x e = let at : suc n + 1 ≡ suc (n + 1) = omega arith in ap (λ k. take k (y ∷ xs)) at ∙ ap (λ zs. y ∷ zs) (take_next xs n x e)
+use Rattle.wx_host_launch.proofs.PipeLemmas.{take_next}
 
 -- one more of the arguments was added
 pub next_argument : (old new texts : List (List ℕ)) (at : ℕ) (text : List ℕ) → old ≡ take at texts → new ≡ old ++ text ∷ [] → slice_get texts at ≡ Some text → new ≡ take (at + 1) texts

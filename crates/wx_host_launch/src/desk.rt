@@ -119,7 +119,8 @@ pub trait HostDesk: Send {
     fn host_ended(&mut self, reason: Reason) -> Result<Answer, NoMemory>
         requires sound { IsSound (state self.old) }
         requires step { 0 < steps self.old }
-        ensures made { IfOk result (λ answer. MakesOne (state self.old) (state self.new) (Call.HostEnded reason) answer) }
+        ensures made { IfOk result (λ answer.
+            MakesOne (state self.old) (state self.new) (Call.HostEnded reason) answer) }
         ensures refused { OnErr result (MakesNone (state self.old) (state self.new)) }
         ensures sound { IsSound (state self.new) }
         ensures one_step { steps self.old ≤ steps self.new + 1 }
