@@ -3,7 +3,8 @@ ghost use Rattle.std.specs.Prelude.{◌≡◌, ℕ, ◌<◌, [], ◌∷◌, leng
 ghost use Rattle.wx_port.specs.Port.{closed, is_open_port, is_live_end};
 ghost use Rattle.wx_id.specs.Contexts.{same_context};
 ghost use Rattle.wx_tables.specs.State.{AreOwed, queues_in};
-ghost use Rattle.wx_tables.specs.Ending.{other_side, told_opener, dropped, told_end, parted, EachQueue, Ended, EndsOwed, SameOwed};
+ghost use Rattle.wx_tables.specs.Ending.{EachQueue, Ended, EndsOwed, SameOwed};
+ghost use Rattle.wx_tables.specs.Ending.{dropped, other_side, parted, told_end, told_opener};
 
 use wx_id::{ChannelNo, ContextNo, Event};
 use wx_mailbox::{Mailbox, mailboxes};

@@ -1,5 +1,6 @@
 //! The channels, the requests and the mailboxes as one value, with the calls that change them together.
-ghost use Rattle.std.specs.Prelude.{◌≡◌, [], ◌∷◌, ◌++◌, false, length, map, true, ◌<◌, IsTrue, IfOk, IfSome, OnOk, OnErr, slice_get, slice_set};
+ghost use Rattle.std.specs.Prelude.{◌≡◌, ◌<◌, [], ◌∷◌, ◌++◌, false, true, length, map, slice_get, slice_set};
+ghost use Rattle.std.specs.Prelude.{IsTrue, IfOk, IfSome, OnOk, OnErr};
 ghost use Rattle.wx_id.specs.declared.events.EventKind.TheVariants as kind;
 ghost use Rattle.wx_id.specs.Contexts.{are_distinct, is_among};
 ghost use Rattle.wx_port.specs.Port.{closed, end_of, is_live_end, is_open_port, live_of, opened, IsSound};
