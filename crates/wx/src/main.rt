@@ -5,7 +5,7 @@ use std::alloc::AllocError;
 use std::env;
 use std::io::ErrorKind;
 use std::process::ExitCode;
-use wx_children::{SILENCE, silence_of, starter_of};
+use wx_children::{ChildStarter, host_seconds};
 use wx_cmd::wx;
 use wx_outside::{FileShelf, Sink, StreamSink};
 use wx_status::Status;
@@ -25,21 +25,13 @@ fn words(rt: &HostRuntime) -> Result<Vec<String>, AllocError> {
     }
 }
 
-/// How many seconds a host's program may be silent while it is waited for.
-fn silence(rt: &HostRuntime) -> u64 {
-    match env::var(rt, "WX_HOST_SECONDS") {
-        Ok(text) => silence_of(text.as_str()),
-        Err(_) => SILENCE,
-    }
-}
-
 fn main(rt: HostRuntime) -> ExitCode {
     let mut shelf = FileShelf::new(&rt);
     let mut out = StreamSink::new(rt.stdout());
     let mut err = StreamSink::new(rt.stderr());
-    let starter = starter_of(rt, rt.alloc(), silence(&rt));
-    let status = match (words(&rt), starter) {
-        (Ok(words), Ok(mut starter)) => wx(
+    let mut starter = ChildStarter::new(rt, rt.alloc(), host_seconds(&rt));
+    let status = match words(&rt) {
+        Ok(words) => wx(
             rt.alloc(),
             &words,
             &mut shelf,
@@ -47,7 +39,7 @@ fn main(rt: HostRuntime) -> ExitCode {
             &mut out,
             &mut err,
         ),
-        _ => {
+        Err(AllocError) => {
             let _ = err.write(b"wx: no memory\n");
             Status::NoMemory
         }

@@ -1,5 +1,5 @@
 -- What a starter of child programs tells.
-use Rattle.std.specs.Prelude.{None}
+use Rattle.std.specs.Prelude.{[], None}
 use Rattle.wx_children.specs.declared.starter.Counts.{Counts}
 use Rattle.wx_host_launch.specs.Records.{HostRecord, StarterState, empty_record, for_slot}
 
@@ -13,6 +13,6 @@ record_of counts = record {
   failed_writes = counts.failed_writes;
 }
 
--- a starter in which nothing was started
+-- a starter that has started nothing and taken nothing over
 abbrev pub fresh_starter : StarterState
 fresh_starter = for_slot None (empty_record None)

@@ -1,47 +1,58 @@
 //! The command that starts a host's program.
-ghost use Rattle.std.specs.Prelude.{◌≡◌, IfOk};
-ghost use Rattle.std.specs.Process.{command_program, command_args};
+ghost use Rattle.std.specs.Prelude.{◌≡◌, [], ◌∷◌, ◌++◌, Some, IfOk};
+ghost use Rattle.std.specs.Process.{command_program, command_args, command_dir};
 
 use std::alloc::{AllocError, Global};
 use std::process::{Command, Stdio};
-use wx_host_manifest::Arguments;
+use wx_host_launch::Arguments;
 
-/// The folder in which a file of this path lies.
-fn folder_of(path: &str) -> &str {
-    match path.rfind('/') {
-        Some(0) => "/",
-        Some(at) => &path[..at],
-        None => ".",
+/// The folder in which a file with an absolute path stands.
+pub(crate) fn folder_of(path: &str) -> &str {
+    match path.rsplit_once('/') {
+        Some((folder, _)) if !folder.is_empty() => folder,
+        _ => "/",
     }
 }
 
-/// A command with these arguments.
-#[tactic(auto, using(crate::proofs::CommandLemmas::next_argument, wx_host_launch::proofs::PipeLemmas::take_whole))]
+/// The command with one more argument.
+fn with_argument(command: Command, text: &str) -> Result<Command, AllocError>
+    ensures program { IfOk result (λ more. command_program more ≡ command_program command) }
+    ensures arguments { IfOk result (λ more. command_args more ≡ command_args command ++ text.now ∷ []) }
+{
+    let mut command = command;
+    command.arg(text)?;
+    Ok(command)
+}
+
+/// The command of this program with these arguments.
+#[tactic(auto, using(crate::proofs::CommandLemmas::take_whole))]
 fn with_arguments(alloc: Global, path: &str, arguments: &Arguments) -> Result<Command, AllocError>
-    ensures program { IfOk result (λ c. command_program c ≡ path.now) }
-    ensures arguments { IfOk result (λ c. command_args c ≡ arguments.now) }
+    ensures program { IfOk result (λ command. command_program command ≡ path.now) }
+    ensures arguments { IfOk result (λ command. command_args command ≡ arguments.now) }
 {
     let mut command = Command::new(alloc, path)?;
     let mut at = 0;
     while let Some(text) = arguments.get(at) {
-        command.arg(text)?;
+        command = with_argument(command, text)?;
         at += 1;
     }
     Ok(command)
 }
 
-/// The command that starts this program with these arguments in its own folder, with two pipes. What it writes on its
-/// standard error goes to that of this process.
+/// The command that starts this program with these arguments in this folder, with two pipes. Its environment and its
+/// standard error are ours.
 pub(crate) fn command_of(
     alloc: Global,
     path: &str,
+    folder: &str,
     arguments: &Arguments,
 ) -> Result<Command, AllocError>
-    ensures program { IfOk result (λ c. command_program c ≡ path.now) }
-    ensures arguments { IfOk result (λ c. command_args c ≡ arguments.now) }
+    ensures program { IfOk result (λ command. command_program command ≡ path.now) }
+    ensures arguments { IfOk result (λ command. command_args command ≡ arguments.now) }
+    ensures folder { IfOk result (λ command. command_dir command ≡ Some folder.now) }
 {
     let mut command = with_arguments(alloc, path, arguments)?;
-    command.current_dir(folder_of(path))?;
+    command.current_dir(folder)?;
     command
         .stdin(Stdio::piped())
         .stdout(Stdio::piped())

@@ -1,12 +1,13 @@
-//! Native hosts as child programs of the system, with pipes. They tell no bytes, and count what failed. Two threads for
-//! each child carry what goes through its pipes, so that no end waits for ever, and no large message blocks a run.
+//! Native hosts as child programs of the system, with pipes. What they write and read is not told; what failed is
+//! counted. No call waits for ever: a child that is silent for too long is ended.
 #![tactic(auto)]
 
-mod carriers;
 mod command;
+mod ends;
+mod line;
 mod pipes;
-mod porter;
 mod starter;
 
-pub use pipes::{ChildIn, ChildOut};
-pub use starter::{ChildStarter, Counts, SILENCE, silence_of, starter_of};
+pub use ends::{ChildIn, ChildOut, Feed, Source};
+pub use pipes::{PipeFeed, PipeSource};
+pub use starter::{ChildStarter, Counts, host_seconds};

@@ -1,164 +1,179 @@
-//! The two ends of a child's pipes. They hand over to the child's threads, and wait for them only so long.
-ghost use Rattle.std.specs.Prelude.{◌≡◌, ◌≤◌, min, length, take, None, is_none};
+//! A feed and a source over the pipes of a child. Neither tells its bytes.
+ghost use Rattle.std.specs.Prelude.{◌≡◌, ◌≤◌, None, length, IfSome};
+ghost use Rattle.wx_children.specs.Lines.{IsWithin};
+ghost use Rattle.wx_children.specs.Puts.{IsWithinPiece};
 
-use crate::carriers::{Came, Gauges};
-use crossbeam_channel::{Receiver, RecvTimeoutError, Sender};
-use std::alloc::Global;
-use std::sync::atomic::Ordering;
-use std::sync::{Arc, Wait};
-use std::time::{Clock, Duration};
-use wx_host_launch::{Failed, HostIn, HostOut};
+use crate::ends::{Feed, Source};
+use crate::line::{Line, Now, SLICE, asking, is_readable};
+use libc::net::{POLLIN, POLLOUT, poll};
+use std::io::{ErrorKind, Write};
+use std::os::fd::AsRawFd;
+use std::process::ChildStdin;
+use std::sync::{Arc, Mutex, Wait};
+use wx_host_launch::Failed;
 
-/// What a child program writes. It does not tell its bytes. A child that is silent for too long has ended.
+/// How many bytes are written at once: a pipe with room takes so many whole, without a wait.
+const PIECE: usize = 4_096;
+
+/// How many waits a child that was ended for its silence has to close its output: 2 seconds.
+const LAST_WAITS: u64 = 20;
+
+/// What a child reads. While it does not, what it writes is read ahead, so that neither waits for the other.
 #[derive(Drop)]
-pub struct ChildOut<R: Drop> {
-    pub(crate) rt: R,
-    pub(crate) silence: Duration,
-    pub(crate) from: Receiver<Came>,
-    pub(crate) gauges: Arc<Gauges, Global>,
-    pub(crate) piece: Vec<u8>,
-    pub(crate) at: usize,
-    pub(crate) ended: bool,
-    /// Whether the child was silent for too long.
-    pub(crate) silent: bool,
-    pub(crate) faults: u64,
+pub struct PipeFeed<R> {
+    pub(crate) runtime: R,
+    pub(crate) input: Option<ChildStdin>,
+    pub(crate) line: Arc<Mutex<Line>>,
+    /// The descriptor of its output.
+    pub(crate) output: i32,
+    /// After how many waits without a byte the child is ended.
+    pub(crate) waits: u64,
 }
 
-/// Puts as many of the first bytes into this room as it has places, and tells how many.
-fn put_front(room: &mut [u8], bytes: &[u8]) -> usize
-    ensures count { result ≡ min (length room.old) (length bytes.now) }
-    ensures size { length room.new ≡ length room.old }
-    ensures front { take result room.new ≡ take result bytes.now }
+/// What a wait at a child's two pipes came to.
+#[derive(Clone, Copy)]
+struct Ready {
+    writable: bool,
+    readable: bool,
+}
+
+/// Waits until the one takes bytes or the other has some, for at most a slice.
+fn wait_at(input: i32, output: i32) -> Ready {
+    let mut asked = [asking(input, POLLOUT), asking(output, POLLIN)];
+    if poll(&mut asked, SLICE) <= 0 {
+        return Ready {
+            writable: false,
+            readable: false,
+        };
+    }
+    Ready {
+        writable: asked[0].revents != 0,
+        readable: asked[1].revents != 0,
+    }
+}
+
+/// What a write came to.
+#[derive(Clone, Copy)]
+enum Put {
+    /// So many bytes were taken.
+    Taken(usize),
+    /// A signal came in between.
+    Again,
+    /// The child has gone.
+    Gone,
+}
+
+/// Writes some of the first bytes.
+fn put_some(input: &mut ChildStdin, bytes: &[u8]) -> Put
+    ensures { IsWithinPiece result (length bytes.now) }
 {
-    let count = room.len().min(bytes.len());
-    room[..count].copy_from_slice(&bytes[..count]);
-    count
+    match input.write(&bytes[..bytes.len().min(PIECE)]) {
+        Ok(0) => Put::Gone,
+        Ok(count) => Put::Taken(count),
+        Err(e) if e.kind() == ErrorKind::Interrupted => Put::Again,
+        Err(_) => Put::Gone,
+    }
 }
 
-/// What comes next of a child's output, and whether the child was silent for too long.
-fn next_of<R: Wait + Clock>(
-    rt: &R,
-    from: &Receiver<Came>,
-    gauges: &Gauges,
-    silence: Duration,
-) -> (Came, bool) {
-    match from.recv_timeout(rt, silence) {
-        Ok(came) => {
-            if let Came::Bytes(bytes) = &came {
-                gauges.ahead.fetch_sub(bytes.len() as u64, Ordering::SeqCst);
+impl<R: Wait> Feed for PipeFeed<R> {
+    ghost sent = { λ feed. None };
+
+    fn feed(&mut self, bytes: &[u8]) -> Option<usize> {
+        let input = self.input.as_mut()?;
+        let mut output = self.output;
+        let mut waited = 0;
+        for _ in 0..u64::MAX {
+            let ready = wait_at(input.as_raw_fd(), output);
+            if ready.writable {
+                match put_some(input, bytes) {
+                    Put::Taken(count) => return Some(count),
+                    Put::Again => {}
+                    Put::Gone => return None,
+                }
             }
-            (came, false)
+            if ready.readable {
+                if !self.line.lock(&self.runtime).read_ahead() {
+                    output = -1;
+                }
+                waited = 0;
+            } else if waited < self.waits {
+                waited += 1;
+            } else {
+                self.line.lock(&self.runtime).kill();
+                return None;
+            }
         }
-        Err(RecvTimeoutError::Timeout) => (Came::End, true),
-        Err(RecvTimeoutError::Disconnected) => (Came::Failed, false),
+        None
+    }
+
+    fn shut(&mut self) {
+        self.input = None;
     }
 }
 
-impl<R: Wait + Clock + Send + Drop> HostOut for ChildOut<R> {
-    ghost state = { λ output. record { ended = output.ended; stream = None; faults = output.faults } };
+/// What a child writes.
+#[derive(Drop)]
+pub struct PipeSource<R> {
+    pub(crate) runtime: R,
+    pub(crate) line: Arc<Mutex<Line>>,
+    /// The descriptor of its output.
+    pub(crate) output: i32,
+    pub(crate) over: bool,
+    /// After how many waits without a byte the child is ended.
+    pub(crate) waits: u64,
+}
 
-    fn faults(&self) -> u64 {
-        self.faults
+impl<R: Wait> PipeSource<R> {
+    /// What comes within so many waits.
+    fn next_within(&self, buf: &mut [u8], waits: u64) -> Now
+        ensures size { length buf.new ≡ length buf.old }
+        ensures room { IsWithin result (length buf.new) }
+    {
+        for _ in 0..waits {
+            match self.line.lock(&self.runtime).take(buf) {
+                Now::Nothing => {
+                    let _ = is_readable(self.output, SLICE);
+                }
+                now => return now,
+            }
+        }
+        Now::Nothing
     }
 
-    fn read(&mut self, buf: &mut [u8]) -> Result<usize, Failed> {
-        if self.ended {
+    /// What comes; a child from which nothing comes for too long is ended, and then what it left.
+    fn next_or_end(&self, buf: &mut [u8]) -> Now
+        ensures size { length buf.new ≡ length buf.old }
+        ensures room { IsWithin result (length buf.new) }
+    {
+        match self.next_within(buf, self.waits) {
+            Now::Nothing => {}
+            now => return now,
+        }
+        self.line.lock(&self.runtime).kill();
+        self.next_within(buf, LAST_WAITS)
+    }
+}
+
+impl<R: Wait> Source for PipeSource<R> {
+    ghost over = { λ source. source.over };
+
+    ghost stream = { λ source. None };
+
+    fn next(&mut self, buf: &mut [u8]) -> Result<usize, Failed> {
+        if self.over {
             return Ok(0);
         }
-        if self.at >= self.piece.len() {
-            let (came, silent) = next_of(&self.rt, &self.from, &self.gauges, self.silence);
-            self.silent = silent;
-            match came {
-                Came::Bytes(bytes) => {
-                    self.piece = bytes;
-                    self.at = 0;
-                }
-                Came::End => {
-                    self.ended = true;
-                    return Ok(0);
-                }
-                Came::Failed => {
-                    self.faults = self.faults.saturating_add(1);
-                    return Err(Failed);
-                }
+        match self.next_or_end(buf) {
+            Now::Came(count) => {
+                self.over = count == 0;
+                Ok(count)
             }
-        }
-        let count = put_front(buf, &self.piece[self.at..]);
-        self.at += count;
-        self.ended = count == 0;
-        Ok(count)
-    }
-}
-
-/// What a child program reads, until it is closed. It does not tell its bytes.
-#[derive(Drop)]
-pub struct ChildIn<R: Drop> {
-    pub(crate) rt: R,
-    pub(crate) alloc: Global,
-    pub(crate) silence: Duration,
-    pub(crate) to: Option<Sender<Vec<u8>>>,
-    pub(crate) told: Receiver<bool>,
-    pub(crate) gauges: Arc<Gauges, Global>,
-    /// Whether a write has failed: nothing more is sent.
-    pub(crate) lost: bool,
-    pub(crate) faults: u64,
-}
-
-/// Waits until it is told whether the bytes were written whole, as long as the child takes bytes.
-fn was_written<R: Wait + Clock>(
-    rt: &R,
-    told: &Receiver<bool>,
-    gauges: &Gauges,
-    silence: Duration,
-) -> bool {
-    for _ in 0..u64::MAX {
-        let before = gauges.sent.load(Ordering::SeqCst);
-        match told.recv_timeout(rt, silence) {
-            Ok(whole) => return whole,
-            Err(RecvTimeoutError::Timeout) => {
-                if gauges.sent.load(Ordering::SeqCst) == before {
-                    return false;
-                }
+            // Its output is held open by others, although it was ended.
+            Now::Nothing => {
+                self.over = true;
+                Ok(0)
             }
-            Err(RecvTimeoutError::Disconnected) => return false,
+            Now::Failed => Err(Failed),
         }
-    }
-    false
-}
-
-impl<R: Wait + Clock + Drop> ChildIn<R> {
-    /// Has the bytes written, and says whether they were, whole.
-    fn write_whole(&self, bytes: &[u8]) -> bool {
-        let Some(to) = &self.to else {
-            return false;
-        };
-        let Ok(copy) = Vec::from_slice(self.alloc, bytes) else {
-            return false;
-        };
-        if to.send(&self.rt, copy).is_err() {
-            return false;
-        }
-        was_written(&self.rt, &self.told, &self.gauges, self.silence)
-    }
-}
-
-impl<R: Wait + Clock + Send + Drop> HostIn for ChildIn<R> {
-    ghost state = { λ input. record { closed = is_none input.to; sent = None; faults = input.faults } };
-
-    fn faults(&self) -> u64 {
-        self.faults
-    }
-
-    fn write(&mut self, bytes: &[u8]) -> Result<(), Failed> {
-        if !self.lost && self.write_whole(bytes) {
-            return Ok(());
-        }
-        self.lost = true;
-        self.faults = self.faults.saturating_add(1);
-        Err(Failed)
-    }
-
-    fn close(&mut self) {
-        self.to = None;
     }
 }

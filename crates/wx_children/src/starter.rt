@@ -1,42 +1,45 @@
-//! What starts child programs, ends them, and counts what failed.
-ghost use Rattle.std.specs.Prelude.{◌≡◌, ◌+◌, ◌≤◌, [], None, map};
+//! The starter of child programs.
+ghost use Rattle.std.specs.Prelude.{◌≡◌, ◌+◌, ◌≤◌, [], None, IfOk, IfSome, map};
 ghost use Rattle.std.specs.Vec.{vec_len, vec_capacity};
 ghost use Rattle.wx_children.specs.Counts.{record_of, fresh_starter};
+ghost use Rattle.wx_children.specs.Ends.{IsNew};
 ghost use Rattle.wx_host_launch.specs.Records.{faults_in};
 
-use crate::carriers::{Gauges, pause};
-use crate::command::command_of;
-use crate::pipes::{ChildIn, ChildOut};
-use crate::porter::{Far, Load, Near, make_lines, start_porter};
-use crossbeam_channel::Sender;
-use std::alloc::Global;
+use crate::command::{command_of, folder_of};
+use crate::ends::{ChildIn, ChildOut};
+use crate::line::{Line, WAITS, wait_or_kill};
+use crate::pipes::{PipeFeed, PipeSource};
+use std::alloc::{Alloc, AllocError, Global};
+use std::env;
 use std::io::ErrorKind;
-use std::process::{Child, Processes, SystemProcess};
-use std::sync::Wait;
-use std::sync::atomic::Ordering;
-use std::thread::{self, Threads};
-use std::time::{Clock, Duration};
+use std::os::fd::AsRawFd;
+use std::process::{Child, Command, Processes, SystemProcess};
+use std::rt::Env;
+use std::sync::{Arc, Mutex, Wait};
 use wx_host_launch::{Arguments, HostIn, HostOut, StartFault, Starter};
 use wx_id::NoMemory;
 
-/// How many seconds a child may be silent while it is waited for, where nothing else is asked for.
-pub const SILENCE: u64 = 60;
+/// After how many seconds a silent child is ended, unless another number is set.
+const SECONDS: u64 = 60;
 
-/// How many seconds a text asks for: a number from 1 to 86,400, else `SILENCE`.
-pub fn silence_of(text: &str) -> u64 {
-    match text.parse::<u64>() {
-        Ok(seconds) if seconds >= 1 && seconds <= 86_400 => seconds,
-        _ => SILENCE,
+/// The most seconds that may be set: a day.
+const MOST_SECONDS: u64 = 86_400;
+
+/// After how many seconds a silent child is ended: what `WX_HOST_SECONDS` sets, a whole number from 1 to 86,400, or
+/// else 60.
+pub fn host_seconds<R: Env + Alloc>(rt: &R) -> u64
+    ensures most { result ≤ 86400 }
+{
+    match env::var(rt, "WX_HOST_SECONDS") {
+        Ok(text) => match text.as_str().parse::<u64>() {
+            Ok(seconds) if seconds > 0 && seconds <= MOST_SECONDS => seconds,
+            _ => SECONDS,
+        },
+        Err(_) => SECONDS,
     }
 }
 
-/// How many pauses a child has from the end of its input to its own end: two seconds of them.
-const PATIENCE: u64 = 1_000;
-
-/// How many pauses the threads of a child have behind its end: half a second of them.
-const LEAVING: u64 = 250;
-
-/// How many starts, reads and writes of a slot were made or have failed.
+/// How often a slot was started, and how many of its starts, reads and writes have failed.
 #[derive(Clone, Copy, Drop)]
 pub struct Counts {
     pub starts: u64,
@@ -64,14 +67,14 @@ const NONE: Counts = Counts {
     failed_writes: 0,
 };
 
-/// Starts child programs. What a child writes on its standard error goes to that of this process.
+/// Starts child programs, each in its own folder and with our environment. What a child writes on its standard error
+/// goes to ours.
 #[derive(Drop)]
-pub struct ChildStarter<R: Drop> {
-    rt: R,
+pub struct ChildStarter<R> {
+    runtime: R,
     alloc: Global,
-    silence: Duration,
-    porter: Sender<Load>,
-    child: Option<Child<SystemProcess>>,
+    /// After how many seconds a silent child is ended.
+    seconds: u64,
     slot: Counts,
     records: Vec<Counts>,
     places: usize,
@@ -79,113 +82,123 @@ pub struct ChildStarter<R: Drop> {
     ghost kept: { vec_len records + places ≤ vec_capacity records },
 }
 
-/// A starter over these processes, whose children may be silent for so many seconds. Nothing was started.
-pub fn starter_of<R: Threads + Wait + Clock + Copy + Send + Drop + 'static>(
-    rt: R,
-    alloc: Global,
-    seconds: u64,
-) -> Result<ChildStarter<R>, NoMemory> {
-    let porter = start_porter(rt, alloc)?;
-    Ok(ChildStarter {
-        rt,
-        alloc,
-        silence: Duration::from_secs(seconds),
-        porter,
-        child: None,
-        slot: NONE,
-        records: Vec::new(alloc),
-        places: 0,
-        taken_over: 0,
-    })
-}
-
-/// Ends a child: it has two seconds of its own, unless it is to be ended at once; it is waited for.
-fn end<R: Clock>(rt: &R, child: &mut Child<SystemProcess>, at_once: bool) {
-    if !at_once {
-        for _ in 0..PATIENCE {
-            match child.try_wait() {
-                Ok(None) => pause(rt),
-                Ok(Some(_)) => return,
-                Err(_) => break,
-            }
+impl<R: Processes<Started = SystemProcess> + Wait + Copy + Send + Drop> ChildStarter<R> {
+    /// A starter over these processes, which ends a child that is silent for so many seconds. Nothing was started.
+    pub fn new(runtime: R, alloc: Global, seconds: u64) -> Self
+        ensures { ⟦<ChildStarter<R> as Starter>⟧.state result ≡ fresh_starter }
+    {
+        ChildStarter {
+            runtime,
+            alloc,
+            seconds,
+            slot: NONE,
+            records: Vec::new(alloc),
+            places: 0,
+            taken_over: 0,
         }
     }
-    if child.kill().is_ok() {
-        let _ = child.wait();
-    }
 }
 
-/// Waits until both threads of a child are done, but not long: a program that the child has started may still hold its
-/// pipes.
-fn see_off<R: Clock>(rt: &R, gauges: &Gauges) {
-    for _ in 0..LEAVING {
-        if gauges.done.load(Ordering::SeqCst) >= 2 {
-            return;
+impl<R: Processes<Started = SystemProcess> + Wait + Copy + Drop> ChildStarter<R> {
+    /// A line without a child.
+    fn empty_line(&self) -> Result<(Arc<Mutex<Line>>, Arc<Mutex<Line>>), AllocError> {
+        let line = Line {
+            child: None,
+            output: None,
+            held: Vec::new(self.alloc),
+            at: 0,
+        };
+        let one = Arc::new(self.alloc, Mutex::new(line))?;
+        let other = one.clone()?;
+        Ok((one, other))
+    }
+
+    /// Runs this command, and hands out the ends of the child's pipe.
+    fn run(&self, command: &mut Command) -> Result<Ends<R>, StartFault>
+        ensures { IfOk result (λ ends.
+            IsNew ends.input.closed ends.input.faults ends.output.source.over ends.output.faults) }
+    {
+        let Ok((near, far)) = self.empty_line() else {
+            return Err(StartFault::NoMemory);
+        };
+        match command.spawn(&self.runtime) {
+            Ok(child) => match self.ends_of(child, near, far) {
+                Some(ends) => Ok(ends),
+                None => Err(StartFault::Failed),
+            },
+            Err(e) if e.kind() == ErrorKind::OutOfMemory => Err(StartFault::NoMemory),
+            Err(_) => Err(StartFault::Failed),
         }
-        pause(rt);
     }
-}
 
-/// Hands the pipes of a child over to the threads that carry. A child whose pipes cannot be handed over is ended.
-fn carried<R: Wait + Clock>(
-    rt: &R,
-    porter: &Sender<Load>,
-    mut child: Child<SystemProcess>,
-    far: Far,
-) -> Option<Child<SystemProcess>> {
-    if let (Some(input), Some(output)) = (child.stdin.take(), child.stdout.take()) {
-        let load = Load { input, output, far };
-        if porter.send(rt, load).is_ok() {
-            return Some(child);
+    /// The ends of a child's pipe, where it has both; else the child is ended.
+    fn ends_of(
+        &self,
+        mut child: Child,
+        near: Arc<Mutex<Line>>,
+        far: Arc<Mutex<Line>>,
+    ) -> Option<Ends<R>>
+        ensures { IfSome result (λ ends.
+            IsNew ends.input.closed ends.input.faults ends.output.source.over ends.output.faults) }
+    {
+        let waits = self.seconds.saturating_mul(WAITS);
+        if let (Some(input), Some(output)) = (child.stdin.take(), child.stdout.take()) {
+            let number = output.as_raw_fd();
+            near.lock(&self.runtime).hold(child, output);
+            let feed = PipeFeed {
+                runtime: self.runtime,
+                input: Some(input),
+                line: near,
+                output: number,
+                waits,
+            };
+            let source = PipeSource {
+                runtime: self.runtime,
+                line: far,
+                output: number,
+                over: false,
+                waits,
+            };
+            return Some(Ends {
+                input: ChildIn {
+                    feed,
+                    closed: false,
+                    faults: 0,
+                },
+                output: ChildOut { source, faults: 0 },
+            });
+        }
+        wait_or_kill(&mut child);
+        None
+    }
+
+    /// Starts a program in its own folder. A path that is not absolute names none.
+    fn launch(&self, path: &str, arguments: &Arguments) -> Result<Ends<R>, StartFault>
+        ensures { IfOk result (λ ends.
+            IsNew ends.input.closed ends.input.faults ends.output.source.over ends.output.faults) }
+    {
+        if !path.starts_with('/') {
+            return Err(StartFault::Failed);
+        }
+        match command_of(self.alloc, path, folder_of(path), arguments) {
+            Ok(mut command) => self.run(&mut command),
+            Err(AllocError) => Err(StartFault::NoMemory),
         }
     }
-    end(rt, &mut child, true);
-    None
 }
 
-/// The two ends of a child's pipes.
-fn ends_of<R: Copy + Drop>(
-    rt: R,
-    alloc: Global,
-    silence: Duration,
-    near: Near,
-) -> (ChildIn<R>, ChildOut<R>) {
-    let Near {
-        to,
-        told,
-        from,
-        of_input,
-        of_output,
-    } = near;
-    let input = ChildIn {
-        rt,
-        alloc,
-        silence,
-        to: Some(to),
-        told,
-        gauges: of_input,
-        lost: false,
-        faults: 0,
-    };
-    let output = ChildOut {
-        rt,
-        silence,
-        from,
-        gauges: of_output,
-        piece: Vec::new(alloc),
-        at: 0,
-        ended: false,
-        silent: false,
-        faults: 0,
-    };
-    (input, output)
+/// The two ends of a child's pipe.
+#[derive(Drop)]
+struct Ends<R> {
+    input: ChildIn<PipeFeed<R>>,
+    output: ChildOut<PipeSource<R>>,
 }
 
-impl<R: Processes<Started = SystemProcess> + Wait + Clock + Copy + Send + Drop> Starter
+impl<R: Processes<Started = SystemProcess> + Wait + Copy + Send + Drop> Starter
     for ChildStarter<R> {
-    type In = ChildIn<R>;
+    type In = ChildIn<PipeFeed<R>>;
 
-    type Out = ChildOut<R>;
+    type Out = ChildOut<PipeSource<R>>;
 
     ghost state = { λ starter. record {
       writing = None;
@@ -203,43 +216,30 @@ impl<R: Processes<Started = SystemProcess> + Wait + Clock + Copy + Send + Drop> 
         &mut self,
         path: &str,
         arguments: &Arguments,
-    ) -> Result<(ChildIn<R>, ChildOut<R>), StartFault> {
-        let Ok(mut command) = command_of(self.alloc, path, arguments) else {
-            return Err(StartFault::NoMemory);
-        };
-        let Ok((near, far)) = make_lines(self.alloc) else {
-            return Err(StartFault::NoMemory);
-        };
-        match command.spawn(&self.rt) {
-            Ok(child) => {
-                if let Some(child) = carried(&self.rt, &self.porter, child, far) {
-                    self.slot.starts = self.slot.starts.saturating_add(1);
-                    self.child = Some(child);
-                    return Ok(ends_of(self.rt, self.alloc, self.silence, near));
-                }
+    ) -> Result<(ChildIn<PipeFeed<R>>, ChildOut<PipeSource<R>>), StartFault> {
+        match self.launch(path, arguments) {
+            Ok(ends) => {
+                self.slot.starts = self.slot.starts.saturating_add(1);
+                Ok((ends.input, ends.output))
             }
-            Err(e) if e.kind() == ErrorKind::OutOfMemory => return Err(StartFault::NoMemory),
-            Err(_) => {}
+            Err(StartFault::Failed) => {
+                self.slot.starts = self.slot.starts.saturating_add(1);
+                self.slot.failed_starts = self.slot.failed_starts.saturating_add(1);
+                Err(StartFault::Failed)
+            }
+            Err(StartFault::NoMemory) => Err(StartFault::NoMemory),
         }
-        self.slot.starts = self.slot.starts.saturating_add(1);
-        self.slot.failed_starts = self.slot.failed_starts.saturating_add(1);
-        Err(StartFault::Failed)
     }
 
     fn another(&mut self) -> Result<Self, NoMemory> {
         if self.records.reserve(self.places + 1).is_err() {
             return Err(NoMemory);
         }
-        let Ok(porter) = self.porter.clone() else {
-            return Err(NoMemory);
-        };
         self.places += 1;
         Ok(ChildStarter {
-            rt: self.rt,
+            runtime: self.runtime,
             alloc: self.alloc,
-            silence: self.silence,
-            porter,
-            child: None,
+            seconds: self.seconds,
             slot: NONE,
             records: Vec::new(self.alloc),
             places: 0,
@@ -247,17 +247,11 @@ impl<R: Processes<Started = SystemProcess> + Wait + Clock + Copy + Send + Drop> 
         })
     }
 
-    fn finish(&mut self, mut input: ChildIn<R>, output: ChildOut<R>) {
+    fn finish(&mut self, mut input: ChildIn<PipeFeed<R>>, output: ChildOut<PipeSource<R>>) {
         input.close();
         self.slot.failed_reads = self.slot.failed_reads.saturating_add(output.faults());
         self.slot.failed_writes = self.slot.failed_writes.saturating_add(input.faults());
-        let silent = output.silent;
-        input.gauges.let_go.store(1, Ordering::SeqCst);
-        drop(output);
-        if let Some(mut child) = self.child.take() {
-            end(&self.rt, &mut child, silent);
-            see_off(&self.rt, &input.gauges);
-        }
+        output.source.line.lock(&self.runtime).finish();
     }
 
     fn absorb(&mut self, other: Self) {
