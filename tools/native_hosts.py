@@ -5,7 +5,8 @@
 
 PROGRAM is `crates/wx/out/wx` where none is given. Each host is a small program of its own in a folder that is removed
 again. Compared are the status, the last entry of the host, what more a case names, and that the run takes no longer
-than the case allows. Ends with status 1 where a case did not come out so.
+than the case allows; and of some rows of crates/wx_rows/data/hosts the whole journal, with the programs that they name
+or the echo host of scenes/ in the place of one that no machine has. Ends with status 1 where one did not come out so.
 """
 import json
 import os
@@ -19,6 +20,11 @@ PROGRAM = os.path.join(TOP, "crates", "wx", "out", "wx")
 ID = "a" * 32
 HELPER = {"manifest_version": 3, "name": "Helper", "version": "1.0", "permissions": ["nativeMessaging"]}
 ECHO = os.path.join(TOP, "scenes", "echo_host.py")
+ROWS = os.path.join(TOP, "crates", "wx_rows", "data", "hosts")
+# Rows, each with the path in its manifest that is replaced, and by what.
+PLAYED = [("the child prints its argument", "/bin/echo", "/bin/echo"),
+          ("the child writes nothing and ends", "/bin/echo", "/bin/cat"),
+          ("a helper extension pings its program", "/opt/example/echo", ECHO)]
 # How many seconds a host may be silent in these runs.
 SECONDS = "2"
 PYTHON = "#!/usr/bin/env python3\nimport os, sys, json, time\n"
@@ -125,6 +131,35 @@ def fault_of(program, host, message, ends, seconds, words):
     return None
 
 
+def parts_of(name):
+    """The parts of a row, by their first lines (as `file s`, `out`): the text of each."""
+    with open(ROWS) as file:
+        rows = file.read().split("\n\n")
+    parts, at = {}, None
+    for line in next(row for row in rows if f"row {name}\n" in row).split("\n"):
+        if line[:1] in ("|", "~"):
+            parts[at] += line[1:] + ("\n" if line[0] == "|" else "")
+        else:
+            at = line
+            parts[at] = ""
+    return parts
+
+
+def row_fault(program, name, path, real):
+    """What was wrong with a row's run over real programs, or nothing."""
+    parts = parts_of(name)
+    with tempfile.TemporaryDirectory() as folder:
+        for first, text in parts.items():
+            if first.startswith("file "):
+                with open(os.path.join(folder, first[5:]), "w") as file:
+                    file.write(text.replace(f'"{path}"', f'"{real}"'))
+        run = subprocess.run([program, "run", "--rounds", "s"], cwd=folder, stdout=subprocess.PIPE, timeout=60,
+                             stderr=subprocess.DEVNULL, env=dict(os.environ, WX_HOST_SECONDS=SECONDS))
+    if run.returncode == 0 and run.stdout.decode(errors="replace") == parts["out"]:
+        return None
+    return f"status {run.returncode}, {run.stdout.decode(errors='replace')[-300:]}"
+
+
 def main():
     program = os.path.abspath(sys.argv[1]) if len(sys.argv) > 1 else PROGRAM
     failed = 0
@@ -132,6 +167,10 @@ def main():
         fault = fault_of(program, *case)
         failed += fault is not None
         print(f"{name}: {'well' if fault is None else fault}", flush=True)
+    for name, path, real in PLAYED:
+        fault = row_fault(program, name, path, real)
+        failed += fault is not None
+        print(f"the row {name}: {'well' if fault is None else fault}", flush=True)
     print(f"{failed} failed")
     sys.exit(1 if failed else 0)
 
