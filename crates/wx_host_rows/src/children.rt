@@ -116,7 +116,9 @@ fn failing_calls(rt: HostRuntime) -> Result<(), Fail> {
         );
         assert_eq!(rt;
             Starter::faults(&starter),
-            counts[0] + counts[1] + counts[2],
+            counts[0]
+                .saturating_add(counts[1])
+                .saturating_add(counts[2]),
             "{path}"
         );
     }
