@@ -7,7 +7,7 @@ ghost use Rattle.wx_id.specs.Ids as ids;
 use std::marker::Model;
 
 /// The id of an extension: 32 letters from `a` to `p` (Chrome's "Manifest - key"). Contracts see its letters.
-#[derive(Clone, Copy, Debug, PartialEq, Eq)]
+#[derive(Clone, Copy, Debug, PartialEq, Eq, Hash)]
 pub struct ExtensionId {
     letters: [u8; 32],
 }
