@@ -5,9 +5,11 @@
 
 PROGRAM is `crates/wx/out/wx` where none is given. Each host is a small program of its own in a folder that is removed
 again. Compared are the status, the last entry of the host, what more a case names, and that the run takes no longer
-than the case allows; and of some rows of crates/wx_rows/data/hosts the whole journal, with the programs that they name
-or the echo host of scenes/ in the place of one that no machine has. Ends with status 1 where one did not come out so.
+than the case allows, and that the host was waited for; and of some rows of crates/wx_rows/data/hosts the whole journal,
+with the programs that they name or the echo host of scenes/ in the place of one that no machine has. Ends with status 1
+where one did not come out so.
 """
+import ctypes
 import json
 import os
 import subprocess
@@ -17,6 +19,8 @@ import time
 
 TOP = os.path.dirname(os.path.dirname(os.path.abspath(__file__)))
 PROGRAM = os.path.join(TOP, "crates", "wx", "out", "wx")
+# prctl(2): orphans of descendants become children of this process, so that one that was not waited for is seen here.
+PR_SET_CHILD_SUBREAPER = 36
 ID = "a" * 32
 HELPER = {"manifest_version": 3, "name": "Helper", "version": "1.0", "permissions": ["nativeMessaging"]}
 ECHO = os.path.join(TOP, "scenes", "echo_host.py")
@@ -27,7 +31,9 @@ PLAYED = [("the child prints its argument", "/bin/echo", "/bin/echo"),
           ("a helper extension pings its program", "/opt/example/echo", ECHO)]
 # How many seconds a host may be silent in these runs.
 SECONDS = "2"
-PYTHON = "#!/usr/bin/env python3\nimport os, sys, json, time\n"
+# Each host notes its number beside itself.
+PYTHON = ("#!/usr/bin/env python3\nimport os, sys, json, time\n"
+          "with open(__file__ + '.pid', 'w') as file: file.write(str(os.getpid()))\n")
 READ = "n = int.from_bytes(sys.stdin.buffer.read(4), 'little'); sys.stdin.buffer.read(n)\n"
 SAY = "def say(b):\n    os.write(1, len(b).to_bytes(4, 'little') + b)\n"
 TELL = PYTHON + SAY + READ + "say(json.dumps([sys.argv[1:], os.getcwd(), os.environ.get('WX_SEEN')]).encode())\n"
@@ -101,6 +107,20 @@ def ends_of(journal):
             if line.startswith("h0 host_ended ")]
 
 
+def is_left(folder):
+    """Whether the run left a host, dead or alive, without waiting for it: it is then a child of this process."""
+    path = os.path.join(folder, "host.pid")
+    if not os.path.exists(path):
+        return False
+    with open(path) as file:
+        number = int(file.read())
+    try:
+        os.waitpid(number, os.WNOHANG)
+        return True
+    except ChildProcessError:
+        return False
+
+
 def fault_of(program, host, message, ends, seconds, words):
     """What was wrong with the run, or nothing."""
     with tempfile.TemporaryDirectory() as folder:
@@ -119,6 +139,8 @@ def fault_of(program, host, message, ends, seconds, words):
             err.seek(0)
             journal, noise = out.read().decode(errors="replace"), err.read().decode(errors="replace")
         found = ends_of(journal)
+        if is_left(folder):
+            return "its host was not waited for"
         if run.returncode != 0:
             return f"status {run.returncode}: {noise[:200]}"
         if len(found) != 1 or found[0] not in ends:
@@ -162,6 +184,7 @@ def row_fault(program, name, path, real):
 
 def main():
     program = os.path.abspath(sys.argv[1]) if len(sys.argv) > 1 else PROGRAM
+    ctypes.CDLL(None).prctl(PR_SET_CHILD_SUBREAPER, 1, 0, 0, 0)
     failed = 0
     for name, *case in cases():
         fault = fault_of(program, *case)
