@@ -1,0 +1,4 @@
+pub mod Filters
+pub mod PlacesLater
+pub mod MembersLater
+pub mod Reached
