@@ -6,7 +6,6 @@ use crate::desk::HostDesk;
 use wx_desk::BrokerDesk;
 use wx_id::{EntryNo, NoMemory};
 use wx_machine::{Answer, JsonText, Reason};
-use wx_walks::texts;
 
 /// The entry that an answer names as that of the text.
 fn lent_by(answer: Answer) -> Option<EntryNo>
@@ -41,7 +40,7 @@ impl HostDesk for BrokerDesk {
     }
 
     fn stopped(&mut self) -> bool {
-        let ended = texts::has_ended(self.broker.journal().entries(), self.host);
+        let ended = self.broker.has_ended(self.host);
         self.told = Some(ended);
         ended
     }

@@ -1,5 +1,4 @@
 use Rattle.std.proofs.Common.{sym, ap, ◌∙◌}
-use Rattle.std.specs.Prelude.{reverse}
 use Rattle.wx_machine.specs.declared.entries.Who.TheVariants.{Host}
 use Rattle.wx_machine.specs.Words.{has_ended}
 use Rattle.wx_desk.proofs.OverLemmas.{past_over}
@@ -8,6 +7,5 @@ use Rattle.wx_host_launch.proofs.broker_desk.BrokerDeskHostDesk.stopped.Goals as
 pub returns-clause-going : goal.returns-clause-going
 returns-clause-going c = λ goes.
     ap (λ past. has_ended past c.args.self.now.host) (past_over Host c.args.self.now.host c.args.self.now.broker)
-    ∙ ap (λ es. has_ended (reverse es) c.args.self.now.host) (sym (c.entries.ensures ∙ c.journal.ensures.entries))
     ∙ sym c.has_ended-ended.ensures
     ∙ goes
