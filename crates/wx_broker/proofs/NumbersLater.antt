@@ -23,7 +23,7 @@ use Rattle.wx_broker.proofs.LivesLater.{among_passing}
 use Rattle.wx_broker.proofs.TestsLater.{and_false, or_false, same_self, same_back, same_is}
 
 -- the number that an entry gives
-abbrev next : List Entry → ContextNo
+abbrev pub next : List Entry → ContextNo
 next past = record { 0 = contexts past }
 
 new_number : (world : WorldLists) (past : List Entry) (who : Who) (call : Call) (answer : Answer) → may_make past who call ≡ true → answer ≡ answer_after world past who call → numbers_of (brought who call answer) ≡ cond (is_enter call) (next past ∷ []) []
@@ -31,11 +31,12 @@ new_number world past (ByContext d) (Enter x) answer may h = rw h refl
 new_number world past (ByHost g) (Enter x) answer may h = absurd (true≢false (sym may))
 new_number world past who call answer may h = refl
 
-numbers_grow : (world : WorldLists) (past : List Entry) (e : Entry) → FollowsMachine world past e → numbers (e ∷ past) ≡ numbers past ++ cond (is_enter e.call) (next past ∷ []) []
+-- the numbers after one more entry
+pub numbers_grow : (world : WorldLists) (past : List Entry) (e : Entry) → FollowsMachine world past e → numbers (e ∷ past) ≡ numbers past ++ cond (is_enter e.call) (next past ∷ []) []
 numbers_grow world past e follows = ap (λ ns. numbers past ++ ns) (new_number world past e.who e.call e.answer follows.may follows.answered)
 
 -- each number is below the count
-numbers_below : (world : WorldLists) (past : List Entry) → EachAfter (FollowsMachine world) past → (d : ContextNo) → is_among (numbers past) d ≡ true → d.0 < contexts past
+pub numbers_below : (world : WorldLists) (past : List Entry) → EachAfter (FollowsMachine world) past → (d : ContextNo) → is_among (numbers past) d ≡ true → d.0 < contexts past
 numbers_below world [] legal d h = absurd (true≢false (sym h))
 numbers_below world (e ∷ past) legal d h =
     by (numbers_below world past legal.0 d) (is_enter e.call) (is_among (numbers past) d) refl (sym (list_any-append (λ x. same_context x d) (numbers past) _) ∙ ap (λ ns. is_among ns d) (sym (numbers_grow world past e legal.1)) ∙ h)

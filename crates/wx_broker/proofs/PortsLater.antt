@@ -77,7 +77,7 @@ lives_stay : (e : Entry) (past : List Entry) (k : ℕ) (ends : Ends) → is_leav
 lives_stay e past k ends stays at = filter_where (came past) (is_live (e ∷ past)) (is_live past) (λ d h. live_stays e past d stays h) ends.receivers (ends_came past k ends at)
 
 -- a channel with these ends, of whose receivers those live, closed or open
-abbrev made : Ends → List ContextNo → Bool → Port
+abbrev pub made : Ends → List ContextNo → Bool → Port
 made ends live closed_now = record { opener = ends.opener; receivers = ends.receivers; live = cond closed_now [] live; is_open = not closed_now }
 
 made_same : (ends : Ends) (live live' : List ContextNo) (b b' : Bool) → live ≡ live' → b ≡ b' → made ends live b ≡ made ends live' b'
@@ -175,7 +175,7 @@ abbrev pub disconnect_entry : ContextNo → ChannelNo → Answer → Entry
 disconnect_entry c k answer = record { who = ByContext c; call = Disconnect k; answer = answer }
 
 -- a disconnect is answered `Done` exactly to a live end of an open channel
-done_is : (live shut : Bool) (end : End) → is_done (cond live (at_end end shut NoEffect Done) Gone) ≡ (is_one end && live && not shut)
+pub done_is : (live shut : Bool) (end : End) → is_done (cond live (at_end end shut NoEffect Done) Gone) ≡ (is_one end && live && not shut)
 done_is true true Opener = refl
 done_is true false Opener = refl
 done_is true true Receiver = refl

@@ -273,7 +273,7 @@ row_left c parties may may' law false = by (same_context parties.asker c) refl (
     by false same false among = rw (same, among, stay among) refl
 
 -- who may reply after a leave
-open_left : (c : ContextNo) (answer : Answer) (past : List Entry) (r : ℕ) (d : ContextNo) → is_open_to (leave_entry c answer ∷ past) r d ≡ (is_open_to past r d && is_other c d)
+pub open_left : (c : ContextNo) (answer : Answer) (past : List Entry) (r : ℕ) (d : ContextNo) → is_open_to (leave_entry c answer ∷ past) r d ≡ (is_open_to past r d && is_other c d)
 open_left c answer past r d =
     ap (λ b. b && not (has_declined (leave_entry c answer ∷ past) r d)) (live_left c answer past d)
     ∙ ap (λ b. (is_live past d && is_other c d) && not b) (declined_stay (leave_entry c answer) past r d refl)
@@ -305,7 +305,7 @@ abbrev pub decline_entry : ContextNo → RequestNo → Answer → Entry
 decline_entry c r answer = record { who = ByContext c; call = Decline r; answer = answer }
 
 -- a decline is answered `Done` exactly to a live receiver of an unsettled request that did not decline it before
-done_is : (live is shut declined : Bool) → is_done (cond live (on_request is (shut || declined) Done) Gone) ≡ (is && (live && not declined) && not shut)
+pub done_is : (live is shut declined : Bool) → is_done (cond live (on_request is (shut || declined) Done) Gone) ≡ (is && (live && not declined) && not shut)
 done_is true true true true = refl
 done_is true true true false = refl
 done_is true true false true = refl

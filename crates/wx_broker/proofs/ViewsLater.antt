@@ -28,7 +28,7 @@ pub view_more : (world : WorldLists) (now : List Entry) (e : Entry) (past : List
 view_more world now e past h = place_more (view_of world now) (hosts past) (starts past e) h
 
 -- an answer with a number
-abbrev is_started : Answer → Bool
+abbrev pub is_started : Answer → Bool
 is_started (OnChannel k) = true
 is_started (OnRequest r) = true
 is_started _ = false

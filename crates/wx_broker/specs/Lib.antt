@@ -2,3 +2,5 @@ pub mod State
 pub mod Steps
 pub mod Tables
 pub mod Views
+pub mod Told
+pub mod Calm

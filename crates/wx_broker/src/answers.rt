@@ -1,49 +1,18 @@
-//! The machine's answers. Channels and requests are found in their tables, the rest by walking the journal.
-ghost use Rattle.std.specs.Prelude.{◌≡◌, cond, length, not, option_copied, reverse, slice_get};
-ghost use Rattle.wx_machine.specs.Answers.{answer_after, at_end, gate_for, is_late, on_request, told_or_empty};
-ghost use Rattle.wx_machine.specs.Answers.{where_heard, where_open, where_short};
-ghost use Rattle.wx_machine.specs.Channels.{channel, channels, end_in};
-ghost use Rattle.wx_machine.specs.Closing.{is_closed};
-ghost use Rattle.wx_machine.specs.Contexts.{context_of, is_live, receivers_of};
-ghost use Rattle.wx_machine.specs.Each.{first};
-ghost use Rattle.wx_machine.specs.Events.{pending};
-ghost use Rattle.wx_machine.specs.Requests.{is_asked, request};
-ghost use Rattle.wx_port.specs.Port.{end_of, is_open_port};
-ghost use Rattle.wx_one_shot.specs.Requests.{standing_at};
-ghost use Rattle.wx_broker.specs.Tables.{HasChannels, HasRequests, is_channel, is_request};
-ghost use Rattle.wx_broker.specs.Tables.{is_done, is_first, on_standing};
+//! Answers, by what the tables told: none of these reads a table.
+ghost use Rattle.std.specs.Prelude.{◌≡◌, is_some};
+ghost use Rattle.wx_machine.specs.Answers.{at_end, is_news, text_or_end, told_or_empty, where_native, where_open};
+ghost use Rattle.wx_machine.specs.Answers.{where_short};
+ghost use Rattle.wx_broker.specs.Tables.{is_channel, is_done, is_event, is_first, is_request, on_standing, said_at};
+ghost use Rattle.wx_broker.specs.Tables.{text_told};
+ghost use Rattle.wx_broker.specs.Calm.{is_already, is_empty, is_ignored, is_posted};
 
-use wx_context::{Context, Target};
-use wx_external::{Verdict, World, gate};
-use wx_id::{ChannelNo, ContextNo, End, RequestNo};
-use wx_machine::{Answer, Call, Entry, JsonText, LONGEST, Sort, Who};
-use wx_one_shot::{Requests, Standing};
-use wx_port::Ports;
-use wx_walks::{contexts, events};
-
-/// The answer to a call that needs only a live caller.
-pub fn done_if_live(entries: &[Entry], c: ContextNo) -> Answer
-    ensures { result ≡ cond (is_live (reverse entries.now) c) Answer.Done Answer.Gone }
-{
-    if contexts::is_live(entries, c) {
-        Answer::Done
-    } else {
-        Answer::Gone
-    }
-}
-
-/// Whether the caller may reach the target; one that never came in may not.
-fn gate_for(world: &World, caller: Option<&Context>, target: &Target) -> Verdict
-    ensures { result ≡ gate_for world.now (option_copied caller.entry) target.now }
-{
-    match caller {
-        Some(x) => gate(world, x, target),
-        None => Verdict::BadTarget,
-    }
-}
+use wx_external::{NativeVerdict, Verdict};
+use wx_id::{End, EntryNo, Event};
+use wx_machine::{Answer, JsonText, LONGEST, Work};
+use wx_one_shot::Standing;
 
 /// That answer, where the gate is open.
-fn where_open(verdict: Verdict, answer: Answer) -> Answer
+pub fn where_open(verdict: Verdict, answer: Answer) -> Answer
     ensures { result ≡ where_open verdict answer }
 {
     match verdict {
@@ -53,191 +22,92 @@ fn where_open(verdict: Verdict, answer: Answer) -> Answer
     }
 }
 
-/// That answer, where the target has a receiver.
-fn where_heard(
-    entries: &[Entry],
-    c: ContextNo,
-    target: &Target,
-    sort: Sort,
-    answer: Answer,
-) -> Answer
-    ensures { result ≡ where_heard (receivers_of (reverse entries.now) c target.now sort) answer }
+/// That answer, where the native gate is open.
+pub fn where_native(verdict: NativeVerdict, answer: Answer) -> Answer
+    ensures { result ≡ where_native verdict answer }
 {
-    if contexts::has_receiver(entries, c, target, sort) {
-        answer
+    match verdict {
+        NativeVerdict::Open(_) => answer,
+        NativeVerdict::BadTarget => Answer::BadTarget,
+        NativeVerdict::NoPermission => Answer::NoPermission,
+        NativeVerdict::BadHostName => Answer::BadHostName,
+        NativeVerdict::HostNotFound => Answer::HostNotFound,
+        NativeVerdict::HostForbidden => Answer::HostForbidden,
+    }
+}
+
+/// That answer, unless the text is too long.
+pub fn where_short(text: &JsonText, answer: Answer) -> Answer
+    ensures { result ≡ where_short text.now answer }
+{
+    if text.len() > LONGEST {
+        Answer::TooLong
     } else {
-        Answer::NoReceiver
+        answer
     }
 }
 
-/// That answer to a live caller who may reach the target, where it has a receiver.
-fn to_target(
-    world: &World,
-    entries: &[Entry],
-    c: ContextNo,
-    target: &Target,
-    sort: Sort,
-    answer: Answer,
-) -> Answer
-    ensures { result ≡ cond (is_live (reverse entries.now) c)
-        (where_open (gate_for world.now (context_of (reverse entries.now) c) target.now)
-        (where_heard (receivers_of (reverse entries.now) c target.now sort) answer))
-        Answer.Gone }
+/// The answer on a channel: to one that is no end of it, where it is closed, and where it is open.
+pub fn at_end(end: End, closed: bool, on_closed: Answer, on_open: Answer) -> Answer
+    ensures { result ≡ at_end end closed on_closed on_open }
 {
-    if !contexts::is_live(entries, c) {
-        return Answer::Gone;
+    match end {
+        End::Neither => Answer::NoPort,
+        _ => { if closed { on_closed } else { on_open } }
     }
-    where_open(
-        gate_for(world, contexts::context_of(entries, c), target),
-        where_heard(entries, c, target, sort, answer),
-    )
 }
 
-/// The answer to a connect.
-pub fn connect(
-    world: &World,
-    entries: &[Entry],
-    ports: &Ports,
-    c: ContextNo,
-    target: &Target,
-) -> Answer
-    requires { HasChannels (reverse entries.now) ports.now }
-    ensures { result ≡ cond (is_live (reverse entries.now) c)
-        (where_open (gate_for world.now (context_of (reverse entries.now) c) target.now)
-        (where_heard (receivers_of (reverse entries.now) c target.now Sort.Connection)
-        (Answer.Channel (record { 0 = length (channels (reverse entries.now)) }))))
-        Answer.Gone }
+/// The answer on a request, by what the caller is to it.
+pub fn on_standing(standing: Standing, answer: Answer) -> Answer
+    ensures { result ≡ on_standing standing answer }
 {
-    let opened = Answer::Channel(ChannelNo(ports.count()));
-    to_target(world, entries, c, target, Sort::Connection, opened)
-}
-
-/// The answer to a post.
-pub fn post(entries: &[Entry], ports: &Ports, c: ContextNo, k: ChannelNo, text: &JsonText) -> Answer
-    requires { HasChannels (reverse entries.now) ports.now }
-    ensures { result ≡ cond (is_live (reverse entries.now) c)
-        (at_end (end_in (channel (reverse entries.now) k.0) c) (is_closed (reverse entries.now) k.0)
-        Answer.PortClosed (where_short text.now Answer.Posted))
-        Answer.Gone }
-{
-    if !contexts::is_live(entries, c) {
-        return Answer::Gone;
+    match standing {
+        Standing::Stranger => Answer::NotYours,
+        Standing::Late => Answer::Late,
+        Standing::Open => answer,
     }
-    on_channel(
-        ports,
-        c,
-        k,
-        Answer::PortClosed,
-        where_short(text, Answer::Posted),
-    )
 }
 
-/// The answer to a disconnect.
-pub fn disconnect(entries: &[Entry], ports: &Ports, c: ContextNo, k: ChannelNo) -> Answer
-    requires { HasChannels (reverse entries.now) ports.now }
-    ensures { result ≡ cond (is_live (reverse entries.now) c)
-        (at_end (end_in (channel (reverse entries.now) k.0) c) (is_closed (reverse entries.now) k.0)
-        Answer.NoEffect Answer.Done)
-        Answer.Gone }
+/// The event, or that none is pending.
+pub fn told_or_empty(first: Option<Event>) -> Answer
+    ensures { result ≡ told_or_empty first }
 {
-    if !contexts::is_live(entries, c) {
-        return Answer::Gone;
-    }
-    on_channel(ports, c, k, Answer::NoEffect, Answer::Done)
-}
-
-/// The answer to a send.
-pub fn send(
-    world: &World,
-    entries: &[Entry],
-    rows: &Requests,
-    c: ContextNo,
-    target: &Target,
-    text: &JsonText,
-) -> Answer
-    requires { HasRequests (reverse entries.now) rows.now }
-    ensures { result ≡ answer_after world.now (reverse entries.now) (Who.Context c) (Call.Send target.now text.now) }
-{
-    let asked = where_short(text, Answer::Request(RequestNo(rows.count())));
-    to_target(world, entries, c, target, Sort::Message, asked)
-}
-
-/// The answer to a reply.
-pub fn reply(
-    entries: &[Entry],
-    rows: &Requests,
-    c: ContextNo,
-    r: RequestNo,
-    text: &JsonText,
-) -> Answer
-    requires { HasRequests (reverse entries.now) rows.now }
-    ensures { result ≡ cond (is_live (reverse entries.now) c)
-        (on_request (is_asked (request (reverse entries.now) r.0) c) (is_late (reverse entries.now) r.0 c)
-        (where_short text.now Answer.First))
-        Answer.Gone }
-{
-    if !contexts::is_live(entries, c) {
-        return Answer::Gone;
-    }
-    on_request(rows, c, r, where_short(text, Answer::First))
-}
-
-/// The answer to a decline.
-pub fn decline(entries: &[Entry], rows: &Requests, c: ContextNo, r: RequestNo) -> Answer
-    requires { HasRequests (reverse entries.now) rows.now }
-    ensures { result ≡ cond (is_live (reverse entries.now) c)
-        (on_request (is_asked (request (reverse entries.now) r.0) c) (is_late (reverse entries.now) r.0 c)
-        Answer.Done)
-        Answer.Gone }
-{
-    if !contexts::is_live(entries, c) {
-        return Answer::Gone;
-    }
-    on_request(rows, c, r, Answer::Done)
-}
-
-/// The answer to a take.
-pub fn take(entries: &[Entry], c: ContextNo) -> Answer
-    ensures { result ≡ cond (is_live (reverse entries.now) c)
-        (told_or_empty (first (pending (reverse entries.now) c))) Answer.Gone }
-{
-    if !contexts::is_live(entries, c) {
-        return Answer::Gone;
-    }
-    match events::first_pending(entries, c) {
+    match first {
         Some(event) => Answer::Event(event),
         None => Answer::Empty,
     }
 }
 
-/// The answer on a channel: to one that is no end of it, where it is closed, and where it is open.
-fn on_channel(
-    ports: &Ports,
-    c: ContextNo,
-    k: ChannelNo,
-    on_closed: Answer,
-    on_open: Answer,
-) -> Answer
-    ensures { result
-        ≡ at_end (end_of (slice_get ports.now k.0) c) (not (is_open_port (slice_get ports.now k.0))) on_closed on_open }
+/// The next text, or else that none comes any more, or that none is there yet.
+pub fn text_or_end(next: Option<EntryNo>, over: bool) -> Answer
+    ensures { result ≡ text_or_end next over }
 {
-    if ports.end(k, c) == End::Neither {
-        Answer::NoPort
-    } else if ports.is_open(k) {
-        on_open
-    } else {
-        on_closed
+    match next {
+        Some(n) => Answer::Text(n),
+        None => { if over { Answer::End } else { Answer::Empty } }
     }
 }
 
-/// The answer on a request: to one whom it was not sent to, where it is too late, and else.
-fn on_request(rows: &Requests, c: ContextNo, r: RequestNo, answer: Answer) -> Answer
-    ensures { result ≡ on_standing (standing_at (slice_get rows.now r.0) c) answer }
+/// The answer to what a host says, by what it works for and whether that is over.
+pub fn said_at(over: bool, work: Option<Work>) -> Answer
+    ensures { result ≡ said_at over work }
 {
-    match rows.standing(r, c) {
-        Standing::Stranger => Answer::NotYours,
-        Standing::Late => Answer::Late,
-        Standing::Open => answer,
+    match (work, over) {
+        (Some(Work::Channel(_)), true) => Answer::PortClosed,
+        (Some(Work::Request(_)), true) => Answer::Ignored,
+        (Some(_), false) => Answer::Passed,
+        (None, _) => Answer::Gone,
+    }
+}
+
+/// Whether the answer tells a host a text, or for the first time that none comes any more.
+pub fn is_news(answer: Answer, knows: bool) -> bool
+    ensures { result ≡ is_news answer knows }
+{
+    match answer {
+        Answer::Text(_) => true,
+        Answer::End => !knows,
+        _ => false,
     }
 }
 
@@ -255,11 +125,32 @@ pub fn is_request(answer: Answer) -> bool
     matches!(answer, Answer::Request(_))
 }
 
+/// Whether an event was taken.
+pub fn is_event(answer: Answer) -> bool
+    ensures { result ≡ is_event answer }
+{
+    matches!(answer, Answer::Event(_))
+}
+
+/// Whether a host took a text.
+pub fn is_text(answer: Answer) -> bool
+    ensures { result ≡ is_some (text_told answer) }
+{
+    matches!(answer, Answer::Text(_))
+}
+
 /// Whether the call was made.
 pub fn is_done(answer: Answer) -> bool
     ensures { result ≡ is_done answer }
 {
     matches!(answer, Answer::Done)
+}
+
+/// Whether the message goes to the other side.
+pub fn is_posted(answer: Answer) -> bool
+    ensures { result ≡ is_posted answer }
+{
+    matches!(answer, Answer::Posted)
 }
 
 /// Whether the reply was the first.
@@ -269,13 +160,23 @@ pub fn is_first(answer: Answer) -> bool
     matches!(answer, Answer::First)
 }
 
-/// That answer, unless the text is too long.
-pub fn where_short(text: &JsonText, answer: Answer) -> Answer
-    ensures { result ≡ where_short text.now answer }
+/// Whether nothing is there yet.
+pub fn is_empty(answer: Answer) -> bool
+    ensures { result ≡ is_empty answer }
 {
-    if text.len() > LONGEST {
-        Answer::TooLong
-    } else {
-        answer
-    }
+    matches!(answer, Answer::Empty)
+}
+
+/// Whether a host's request was settled before.
+pub fn is_ignored(answer: Answer) -> bool
+    ensures { result ≡ is_ignored answer }
+{
+    matches!(answer, Answer::Ignored)
+}
+
+/// Whether a host ended before.
+pub fn is_already(answer: Answer) -> bool
+    ensures { result ≡ is_already answer }
+{
+    matches!(answer, Answer::Already)
 }

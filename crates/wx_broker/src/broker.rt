@@ -1,38 +1,42 @@
-//! The broker, and the calls of contexts.
-ghost use Rattle.std.specs.Prelude.{◌≡◌, ◌+◌, ◌<◌, ◌≤◌, IsOk, IsTrue, reverse, [], ◌∷◌, ◌++◌, OnErr, OnOk, IfOk, IfErr};
+//! The broker, and the calls by which contexts come in, listen, leave and take what waits for them.
+ghost use Rattle.std.specs.Prelude.{◌≡◌, ◌+◌, ◌<◌, ◌≤◌, IsOk, IsTrue, reverse, [], ◌∷◌, ◌++◌, ◌==◌, cond, length};
+ghost use Rattle.std.specs.Prelude.{OnErr, OnOk, IfOk, IfErr};
 ghost use Rattle.wx_machine.specs.Contexts.{contexts};
 ghost use Rattle.wx_machine.specs.Answers.{answer_of, FollowsMachine, IsLegal};
 ghost use Rattle.wx_machine.specs.Events.{has_pending};
 ghost use Rattle.wx_broker.specs.Steps.{Appends, KeepsNumbers, Stays};
-ghost use Rattle.wx_broker.specs.Tables.{is_channel, is_event, is_request, is_quiet};
+ghost use Rattle.wx_broker.specs.Tables.{is_event};
+ghost use Rattle.wx_broker.specs.Calm.{is_calm};
 ghost use Rattle.wx_laws.specs.Keeping.{KeepsLaws};
 
-use crate::{answers, tables};
+use crate::answers::{is_done, is_event, told_or_empty};
 use std::alloc::Global;
 use std::marker::Model;
-use wx_context::{Context, Listens, Target};
+use wx_context::{Context, Listens};
 use wx_external::World;
-use wx_id::{ChannelNo, ContextNo, NoMemory, RequestNo, Utf8Text};
+use wx_id::{ContextNo, EntryNo, NoMemory};
 use wx_journal::Journal;
-use wx_machine::{Answer, Call, Entry, JsonText, Who};
-use wx_one_shot::Requests;
-use wx_port::Ports;
-use wx_walks::contexts;
+use wx_machine::{Answer, Call, Entry, Who};
+use wx_native_hosts::Hosts;
+use wx_roster::Roster;
+use wx_tables::Tables;
 
-/// The broker. It keeps the journal, and tables of its channels and requests. Contracts see the world that it was made
-/// with, the journal's entries, and how many more have room; the journal is always legal, and the tables tell it.
+/// The broker. It keeps the journal, and tables of its contexts, channels, requests and native hosts, with what waits
+/// for each. Contracts see the world that it was made with, the journal's entries, and how many more have room; the
+/// journal is always legal, and the tables tell it.
 #[derive(Drop)]
 pub struct Broker {
     pub(crate) world: World,
     pub(crate) journal: Journal,
-    pub(crate) ports: Ports,
-    pub(crate) requests: Requests,
+    pub(crate) roster: Roster,
+    pub(crate) tables: Tables,
+    pub(crate) hosts: Hosts,
     pub(crate) alloc: Global,
 }
 
 impl Model for Broker {
     ghost use Rattle.wx_broker.specs.State.{BrokerState};
-    ghost use Rattle.wx_broker.specs.Tables.{IsKept};
+    ghost use Rattle.wx_broker.specs.Told.{IsTold};
 
     ghost Value = { BrokerState };
 
@@ -43,7 +47,21 @@ impl Model for Broker {
           broker.journal.spare;
     } };
 
-    ghost invariant = { λ broker. IsKept broker.world broker.journal.entries broker.ports broker.requests };
+    ghost invariant = { λ broker. IsTold broker.world broker.journal.entries broker.roster broker.tables broker.hosts.hosts };
+}
+
+/// A queue for context c, where there is none: one may be left of a context for whom the roster had no memory.
+fn make_queue(tables: &mut Tables, c: ContextNo) -> Result<(), NoMemory>
+    ensures ports { tables.new.ports ≡ tables.old.ports }
+    ensures requests { tables.new.requests ≡ tables.old.requests }
+    ensures ok { OnOk result (tables.new.queues
+        ≡ cond (length tables.old.queues == c.0) (tables.old.queues ++ [] ∷ []) tables.old.queues) }
+    ensures err { OnErr result (tables.new ≡ tables.old) }
+{
+    if tables.contexts() == c.0 {
+        return tables.enter();
+    }
+    Ok(())
 }
 
 impl Broker {
@@ -55,27 +73,29 @@ impl Broker {
         Broker {
             world,
             journal: Journal::new(alloc),
-            ports: Ports::new(alloc),
-            requests: Requests::new(alloc),
+            roster: Roster::new(alloc),
+            tables: Tables::new(alloc),
+            hosts: Hosts::new(alloc),
             alloc,
         }
     }
 
-    /// Appends an entry that changes no table, and that there is room for.
-    pub(crate) fn append(&mut self, e: Entry)
-        requires follows { FollowsMachine self.old.world (reverse self.old.entries) e }
-        requires quiet { IsTrue (is_quiet e.call e.answer) }
+    /// Appends a call with its answer that changes no table, and that there is room for.
+    pub(crate) fn append(&mut self, who: Who, call: Call, answer: Answer)
+        requires follows { FollowsMachine self.old.world (reverse self.old.entries)
+            (record { who = who; call = call; answer = answer }) }
+        requires calm { IsTrue (is_calm call answer) }
         requires room { 0 < self.old.spare }
-        ensures grown { self.new.entries ≡ self.old.entries ++ e ∷ [] }
+        ensures grown { self.new.entries
+            ≡ self.old.entries ++ record { who = who; call = call; answer = answer } ∷ [] }
         ensures world { self.new.world ≡ self.old.world }
         ensures spare { self.old.spare ≤ self.new.spare + 1 }
         ensures numbers { KeepsNumbers self.old.entries self.new.entries }
     {
-        tables::push(&mut self.journal, e);
+        self.journal.push_reserved(Entry { who, call, answer });
     }
 
     /// A context enters, and is given the next number. It comes back where memory was refused.
-    #[tactic(auto, using(wx_walks::proofs::Past::contexts_after))]
     pub fn enter(&mut self, x: Context) -> Result<ContextNo, Context>
         ensures ok { IfOk result (λ c. Appends self.old self.new (Who.Context c) (Call.Enter x) (Answer.Entered c)) }
         ensures err { OnErr result (Stays self.old self.new) }
@@ -87,8 +107,14 @@ impl Broker {
         if self.journal.reserve(1).is_err() {
             return Err(x);
         }
-        let c = ContextNo(contexts::count(self.journal.entries()));
-        self.append(Entry {
+        let c = ContextNo(self.roster.count());
+        if make_queue(&mut self.tables, c).is_err() {
+            return Err(x);
+        }
+        if self.roster.enter(&x).is_err() {
+            return Err(x);
+        }
+        self.journal.push_reserved(Entry {
             who: Who::Context(c),
             call: Call::Enter(x),
             answer: Answer::Entered(c),
@@ -106,8 +132,13 @@ impl Broker {
         ensures numbers { KeepsNumbers self.old.entries self.new.entries }
     {
         self.journal.reserve(1)?;
-        let answer = answers::done_if_live(self.journal.entries(), c);
-        self.append(Entry {
+        let answer = self.done_if_live(c);
+        if !is_done(answer) {
+            self.append(Who::Context(c), Call::Listen(l), answer);
+            return Ok(answer);
+        }
+        self.roster.listen(c, l);
+        self.journal.push_reserved(Entry {
             who: Who::Context(c),
             call: Call::Listen(l),
             answer,
@@ -125,203 +156,30 @@ impl Broker {
         ensures numbers { KeepsNumbers self.old.entries self.new.entries }
     {
         self.journal.reserve(1)?;
-        let answer = answers::done_if_live(self.journal.entries(), c);
-        // To one who left before this does nothing.
-        self.ports.leave(c);
-        self.requests.leave(c);
-        tables::push(
-            &mut self.journal,
-            Entry {
-                who: Who::Context(c),
-                call: Call::Leave,
-                answer,
-            },
-        );
-        Ok(answer)
-    }
-
-    /// Context c opens a channel to a target (`runtime.connect`). The port name comes back where memory was
-    /// refused.
-    pub fn connect(
-        &mut self,
-        c: ContextNo,
-        target: Target,
-        name: Utf8Text,
-    ) -> Result<Answer, Utf8Text>
-        requires { c.0 < contexts (reverse self.old.entries) }
-        ensures ok { IfOk result (λ a. Appends self.old self.new (Who.Context c) (Call.Connect target name) a) }
-        ensures err { OnErr result (Stays self.old self.new) }
-        ensures returned { IfErr result (λ back. back ≡ name) }
-        ensures room { 0 < self.old.spare
-            → OnErr result (IsTrue (is_channel
-            (answer_of self.old.world self.old.entries (Who.Context c) (Call.Connect target name)))) }
-        ensures spare { self.old.spare ≤ self.new.spare + 1 }
-        ensures numbers { KeepsNumbers self.old.entries self.new.entries }
-    {
-        if self.journal.reserve(1).is_err() {
-            return Err(name);
+        let answer = self.done_if_live(c);
+        if !is_done(answer) {
+            self.append(Who::Context(c), Call::Leave, answer);
+            return Ok(answer);
         }
-        let answer = answers::connect(&self.world, self.journal.entries(), &self.ports, c, &target);
-        let opened = tables::open(
-            &mut self.ports,
-            self.alloc,
-            self.journal.entries(),
-            c,
-            &target,
-            answer,
-        );
-        if opened.is_err() {
-            return Err(name);
-        }
-        tables::push(
-            &mut self.journal,
-            Entry {
-                who: Who::Context(c),
-                call: Call::Connect(target, name),
-                answer,
-            },
-        );
-        Ok(answer)
-    }
-
-    /// Context c posts a message on channel k (`Port.postMessage`). The message comes back where memory was
-    /// refused.
-    pub fn post(&mut self, c: ContextNo, k: ChannelNo, text: JsonText) -> Result<Answer, JsonText>
-        requires { c.0 < contexts (reverse self.old.entries) }
-        ensures ok { IfOk result (λ a. Appends self.old self.new (Who.Context c) (Call.Post k text) a) }
-        ensures err { OnErr result (Stays self.old self.new) }
-        ensures returned { IfErr result (λ back. back ≡ text) }
-        ensures spare { self.old.spare ≤ self.new.spare + 1 }
-        ensures numbers { KeepsNumbers self.old.entries self.new.entries }
-    {
-        if self.journal.reserve(1).is_err() {
-            return Err(text);
-        }
-        let answer = answers::post(self.journal.entries(), &self.ports, c, k, &text);
-        self.append(Entry {
+        let n = EntryNo(self.journal.len());
+        self.tables.leave(c, n);
+        self.roster.leave(c);
+        self.journal.push_reserved(Entry {
             who: Who::Context(c),
-            call: Call::Post(k, text),
+            call: Call::Leave,
             answer,
         });
         Ok(answer)
     }
 
-    /// Context c closes channel k (`Port.disconnect`).
-    pub fn disconnect(&mut self, c: ContextNo, k: ChannelNo) -> Result<Answer, NoMemory>
-        requires { c.0 < contexts (reverse self.old.entries) }
-        ensures ok { IfOk result (λ a. Appends self.old self.new (Who.Context c) (Call.Disconnect k) a) }
-        ensures err { OnErr result (Stays self.old self.new) }
-        ensures room { 0 < self.old.spare → IsOk result }
-        ensures spare { self.old.spare ≤ self.new.spare + 1 }
-        ensures numbers { KeepsNumbers self.old.entries self.new.entries }
+    /// The answer to a take.
+    fn take_answer(&self, c: ContextNo) -> Answer
+        ensures { result ≡ answer_of self.now.world self.now.entries (Who.Context c) Call.Take }
     {
-        self.journal.reserve(1)?;
-        let answer = answers::disconnect(self.journal.entries(), &self.ports, c, k);
-        tables::close_if_done(&mut self.ports, k, answer);
-        tables::push(
-            &mut self.journal,
-            Entry {
-                who: Who::Context(c),
-                call: Call::Disconnect(k),
-                answer,
-            },
-        );
-        Ok(answer)
-    }
-
-    /// Context c sends a message to a target, and asks for one reply (`runtime.sendMessage`). The message comes
-    /// back where memory was refused.
-    pub fn send(&mut self, c: ContextNo, target: Target, text: JsonText) -> Result<Answer, JsonText>
-        requires { c.0 < contexts (reverse self.old.entries) }
-        ensures ok { IfOk result (λ a. Appends self.old self.new (Who.Context c) (Call.Send target text) a) }
-        ensures err { OnErr result (Stays self.old self.new) }
-        ensures returned { IfErr result (λ back. back ≡ text) }
-        ensures room { 0 < self.old.spare
-            → OnErr result (IsTrue (is_request
-            (answer_of self.old.world self.old.entries (Who.Context c) (Call.Send target text)))) }
-        ensures spare { self.old.spare ≤ self.new.spare + 1 }
-        ensures numbers { KeepsNumbers self.old.entries self.new.entries }
-    {
-        if self.journal.reserve(1).is_err() {
-            return Err(text);
+        if !self.is_live(c) {
+            return Answer::Gone;
         }
-        let answer = answers::send(
-            &self.world,
-            self.journal.entries(),
-            &self.requests,
-            c,
-            &target,
-            &text,
-        );
-        let asked = tables::ask(
-            &mut self.requests,
-            self.alloc,
-            self.journal.entries(),
-            c,
-            &target,
-            answer,
-        );
-        if asked.is_err() {
-            return Err(text);
-        }
-        tables::push(
-            &mut self.journal,
-            Entry {
-                who: Who::Context(c),
-                call: Call::Send(target, text),
-                answer,
-            },
-        );
-        Ok(answer)
-    }
-
-    /// Context c replies to request r. The message comes back where memory was refused.
-    pub fn reply(&mut self, c: ContextNo, r: RequestNo, text: JsonText) -> Result<Answer, JsonText>
-        requires { c.0 < contexts (reverse self.old.entries) }
-        ensures ok { IfOk result (λ a. Appends self.old self.new (Who.Context c) (Call.Reply r text) a) }
-        ensures err { OnErr result (Stays self.old self.new) }
-        ensures returned { IfErr result (λ back. back ≡ text) }
-        ensures room { 0 < self.old.spare → IsOk result }
-        ensures spare { self.old.spare ≤ self.new.spare + 1 }
-        ensures numbers { KeepsNumbers self.old.entries self.new.entries }
-    {
-        if self.journal.reserve(1).is_err() {
-            return Err(text);
-        }
-        let answer = answers::reply(self.journal.entries(), &self.requests, c, r, &text);
-        tables::settle_if_first(&mut self.requests, r, answer);
-        tables::push(
-            &mut self.journal,
-            Entry {
-                who: Who::Context(c),
-                call: Call::Reply(r, text),
-                answer,
-            },
-        );
-        Ok(answer)
-    }
-
-    /// Context c says that it will not reply to request r.
-    pub fn decline(&mut self, c: ContextNo, r: RequestNo) -> Result<Answer, NoMemory>
-        requires { c.0 < contexts (reverse self.old.entries) }
-        ensures ok { IfOk result (λ a. Appends self.old self.new (Who.Context c) (Call.Decline r) a) }
-        ensures err { OnErr result (Stays self.old self.new) }
-        ensures room { 0 < self.old.spare → IsOk result }
-        ensures spare { self.old.spare ≤ self.new.spare + 1 }
-        ensures numbers { KeepsNumbers self.old.entries self.new.entries }
-    {
-        self.journal.reserve(1)?;
-        let answer = answers::decline(self.journal.entries(), &self.requests, c, r);
-        tables::decline_if_done(&mut self.requests, r, c, answer);
-        tables::push(
-            &mut self.journal,
-            Entry {
-                who: Who::Context(c),
-                call: Call::Decline(r),
-                answer,
-            },
-        );
-        Ok(answer)
+        told_or_empty(self.tables.first(c))
     }
 
     /// Context c takes the first event that is pending for it.
@@ -334,8 +192,13 @@ impl Broker {
         ensures numbers { KeepsNumbers self.old.entries self.new.entries }
     {
         self.journal.reserve(1)?;
-        let answer = answers::take(self.journal.entries(), c);
-        self.append(Entry {
+        let answer = self.take_answer(c);
+        if !is_event(answer) {
+            self.append(Who::Context(c), Call::Take, answer);
+            return Ok(answer);
+        }
+        let _ = self.tables.take(c);
+        self.journal.push_reserved(Entry {
             who: Who::Context(c),
             call: Call::Take,
             answer,
@@ -349,14 +212,14 @@ impl Broker {
         ensures event { result ≡ is_event (answer_of self.now.world self.now.entries (Who.Context c) Call.Take) }
         ensures pending { result ≡ has_pending (reverse self.now.entries) c }
     {
-        matches!(answers::take(self.journal.entries(), c), Answer::Event(_))
+        is_event(self.take_answer(c))
     }
 
     /// How many contexts entered.
     pub fn contexts(&self) -> u64
         ensures { result ≡ contexts (reverse self.now.entries) }
     {
-        contexts::count(self.journal.entries())
+        self.roster.count()
     }
 
     /// Makes room for so many more entries; nothing else is changed.

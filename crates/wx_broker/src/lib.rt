@@ -1,14 +1,14 @@
-//! The messaging broker: it keeps the journal, and tables of its channels and requests; the rest it finds by walking
-//! the journal.
+//! The broker over tables: it keeps the journal, and what each call asks of it in tables that tell the journal.
 #![tactic(auto)]
 
 mod answers;
 mod broker;
-mod host_answers;
+mod channels;
 mod host_view;
 mod hosting;
 mod native;
-mod tables;
+mod reading;
+mod requests;
 
 pub use broker::Broker;
 pub use host_view::HostView;

@@ -1,22 +1,42 @@
-use Rattle.std.proofs.Common.{◌∙◌, sym}
+use Rattle.std.proofs.Common.{◌≡◌, ◌∙◌, sym, length, true}
 use Rattle.std.specs.Prelude.{reverse}
+use Rattle.std.proofs.lemmas.List.{length-reverse}
 use Rattle.wx_machine.specs.declared.sorts.Sort.TheVariants.{Message}
+use Rattle.wx_machine.specs.declared.entries.Who.TheVariants.{Context as ByContext}
+use Rattle.wx_machine.specs.declared.entries.Call.TheVariants.{Send}
+use Rattle.wx_machine.specs.Words.{FollowsMachine}
+use Rattle.wx_broker.specs.Tables.{is_request}
+use Rattle.wx_broker.proofs.KeptLater.{may_call}
 use Rattle.wx_broker.proofs.NumbersLater.{receivers_distinct, caller_apart}
-use Rattle.wx_broker.proofs.KeptLater.{kept_sent, may_call, ok_holds}
+use Rattle.wx_broker.proofs.OpenedLater.{all_there}
+use Rattle.wx_broker.proofs.SentLater.{told_sent}
 use Rattle.wx_broker.proofs.broker.Broker.send.Goals as goal
 
-pub ask-asked-requires-clause-distinct : goal.ask-asked-requires-clause-distinct
-ask-asked-requires-clause-distinct c =
+pub ask-requires-clause-distinct : goal.ask-requires-clause-distinct
+ask-requires-clause-distinct c =
     let i = c.self.inside in
-    rw (c.entries-2.ensures, c.reserve.ensures.same) (receivers_distinct i.world (reverse i.journal.entries) c.args.c c.args.target Message c.self.invariant.legal)
+    rw (c.in-Ok.ensures, c.reserve.ensures.same) (receivers_distinct i.world (reverse i.journal.entries) c.args.c c.args.target Message c.self.invariant.kept.legal)
 
-pub ask-asked-requires-clause-asker : goal.ask-asked-requires-clause-asker
-ask-asked-requires-clause-asker c = caller_apart (reverse c.entries-2.result.now) c.args.c c.args.target Message
-
-pub invariant_of-self-2 : goal.invariant_of-self-2
-invariant_of-self-2 c =
+pub ask-requires-clause-other : goal.ask-requires-clause-other
+ask-requires-clause-other c =
     let i = c.self.inside in
-    kept_sent i.world i.journal.entries c.push.new.journal.entries c.args.c c.args.target c.args.text c.send-answer.result i.ports i.requests c.ask-asked.new.requests c.self.invariant
-    (record { may = may_call (reverse i.journal.entries) c.args.c (rw (← c.self.view_is) at c.requires); answered = rw (c.entries.ensures, c.reserve.ensures.same) at c.send-answer.ensures })
-    (rw c.reserve.ensures.same at c.push.ensures.entries)
-    (rw (c.entries-2.ensures, c.reserve.ensures.same) at (ok_holds c.ask-asked.result c.ask-asked.ensures.ok (sym c.is_err-2.ensures.value ∙ c.if-is_err-2.false)))
+    rw (c.in-Ok.ensures, c.reserve.ensures.same) (caller_apart (reverse i.journal.entries) c.args.c c.args.target Message)
+
+pub ask-requires-clause-there : goal.ask-requires-clause-there
+ask-requires-clause-there c =
+    let i = c.self.inside in
+    all_there i.world (reverse i.journal.entries) c.args.c c.args.target Message c.in-Ok.found.items i.roster i.tables.queues c.self.invariant.kept.legal
+    (rw c.reserve.ensures.same at c.in-Ok.ensures)
+    c.self.invariant.count c.self.invariant.there (rw (← c.self.view_is) at c.requires)
+
+pub invariant_of-self-4 : goal.invariant_of-self-4
+invariant_of-self-4 c =
+    let i = c.self.inside in
+    let follows : FollowsMachine i.world (reverse i.journal.entries) (record { who = ByContext c.args.c; call = Send c.args.target c.args.text; answer = c.send_answer-answer.result }) = record { may = may_call (reverse i.journal.entries) c.args.c (rw (← c.self.view_is) at c.requires); answered = rw c.reserve.ensures.same at c.send_answer-answer.ensures } in
+    let asks : is_request c.send_answer-answer.result ≡ true = sym c.is_request.ensures ∙ c.if-not-is_request.false in
+    let at : c.len.result ≡ length (reverse i.journal.entries) = (rw c.reserve.ensures.same at c.len.ensures) ∙ sym (length-reverse i.journal.entries) in
+    told_sent i.world i.journal.entries c.push_reserved.new.self.entries c.args.c c.args.target c.args.text c.send_answer-answer.result c.in-Ok.found.items i.roster i.tables c.ask.new.self i.hosts.hosts (record { 0 = c.len.result }) c.ask.result c.self.invariant follows asks
+    (rw c.reserve.ensures.same at c.push_reserved.ensures.entries) at
+    (rw c.reserve.ensures.same at c.in-Ok.ensures)
+    (sym c.is_err-2.ensures.value ∙ c.if-is_err-2.false)
+    c.ask.ensures.number c.ask.ensures.ports c.ask.ensures.requests c.ask.ensures.queues

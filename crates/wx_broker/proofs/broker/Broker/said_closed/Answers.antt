@@ -1,0 +1,9 @@
+use Rattle.std.proofs.Common.{◌∙◌}
+use Rattle.std.specs.Prelude.{reverse}
+use Rattle.wx_broker.proofs.HostReadings.{rows_closed}
+use Rattle.wx_broker.proofs.broker.Broker.said_closed.Goals as goal
+
+pub returns : goal.returns
+returns c =
+    let i = c.self.inside in
+    rw (← c.self.view_is) (c.said_closed.ensures ∙ rows_closed i.world (reverse i.journal.entries) i.hosts.hosts c.args.h c.self.invariant.kept.legal c.self.invariant.started)

@@ -1,6 +1,0 @@
-use Rattle.std.specs.Prelude.{reverse}
-use Rattle.wx_broker.proofs.PortsLater.{channels_counted}
-use Rattle.wx_broker.proofs.host_answers.connect_native.Goals as goal
-
-pub returns : goal.returns
-returns c = rw (← channels_counted (reverse c.args.entries.now) c.args.ports.now c.requires, ← c.count.ensures) c.to_host.ensures
