@@ -1,34 +1,29 @@
 -- The roster tells the journal one entry later, and what is read from it is what the journal says.
-use Rattle.std.proofs.Common.{◌≡◌, ℕ, ◌+◌, ◌<◌, ◌≤◌, List, [], ◌∷◌, ◌++◌, length, map, refl, ap, sym, ◌∙◌, Bool, true, false, cond, not, arith, append-nil, zero-add}
-use Rattle.std.specs.Prelude.{Option, Some, None, filter, slice_get, ◌&&◌, ◌||◌, ◌==◌, nat_lt}
+use Rattle.std.proofs.Common.{◌≡◌, ℕ, ◌+◌, ◌≤◌, List, [], ◌∷◌, ◌++◌, length, refl, ap, sym, ◌∙◌, Bool, true, false, cond, not, arith, zero-add}
+use Rattle.std.specs.Prelude.{Option, Some, None, slice_get, ◌&&◌, ◌||◌, ◌==◌, nat_lt}
 use Rattle.std.specs.Option.{option_map, option_or}
-use Rattle.std.specs.List.{list_any, range_with_len}
 use Rattle.std.proofs.lemmas.Bool.{true≢false}
 use Rattle.std.proofs.lemmas.Bool.Decides.{nat_tests}
 use Rattle.std.proofs.lemmas.List.{length-append}
-use Rattle.std.proofs.lemmas.List.FromFn.{map-range_with_len_more}
-use Rattle.std.proofs.lemmas.Option.{none-some, same_Some}
+use Rattle.std.proofs.lemmas.Option.{none-some}
 use Rattle.wx_id.specs.declared.numbers.ContextNo.{ContextNo}
 use Rattle.wx_id.specs.Contexts.{same_context}
 use Rattle.wx_context.specs.declared.contexts.Context.{Context}
-use Rattle.wx_context.specs.declared.contexts.Target.{Target}
 use Rattle.wx_context.specs.declared.contexts.Listens.{Listens}
 use Rattle.wx_external.specs.World.{WorldLists}
-use Rattle.wx_machine.specs.declared.sorts.Sort.{Sort}
 use Rattle.wx_machine.specs.declared.entries.Who.{Who}
 use Rattle.wx_machine.specs.declared.entries.Who.TheVariants.{Context as ByContext, Host as ByHost}
 use Rattle.wx_machine.specs.declared.entries.Call.{Call}
 use Rattle.wx_machine.specs.declared.entries.Call.TheVariants.{Enter, Listen, Leave}
 use Rattle.wx_machine.specs.declared.entries.Answer.{Answer}
-use Rattle.wx_machine.specs.declared.entries.Answer.TheVariants.{Entered, NoReceiver}
+use Rattle.wx_machine.specs.declared.entries.Answer.TheVariants.{Entered}
 use Rattle.wx_machine.specs.declared.entries.Entry.{Entry}
-use Rattle.wx_machine.specs.Words.{EachAfter, FollowsMachine, answer_after, may_make, brought, context_of, contexts, deaf, enters, has_left, if_numbered}
-use Rattle.wx_machine.specs.Words.{is_by, is_enter, is_leave, is_live, is_there, listens_of, numbers, numbers_of, reaches_from, receivers_of, is_receiver, where_heard}
+use Rattle.wx_machine.specs.Words.{EachAfter, FollowsMachine, may_make, brought, context_of, contexts, deaf, enters, has_left, if_numbered}
+use Rattle.wx_machine.specs.Words.{is_by, is_enter, is_leave, is_live, is_there, listens_of}
 use Rattle.wx_machine.specs.Contexts.{listens_after}
 use Rattle.wx_machine.proofs.Lists.{get_options}
 use Rattle.wx_roster.specs.declared.roster.Member.{Member}
-use Rattle.wx_roster.specs.Members.{newcomer, listening, gone, is_live_in, hears_from, is_receiver_in, numbered, numbers_in, receivers_in}
-use Rattle.wx_roster.proofs.Filters.{filter_same}
+use Rattle.wx_roster.specs.Members.{newcomer, listening, gone, is_live_in, numbered}
 use Rattle.wx_roster.proofs.MembersLater.{ChangedAt}
 use Rattle.wx_broker.proofs.TestsLater.{same_is}
 use Rattle.wx_broker.specs.Told.{HasContexts}

@@ -1,5 +1,5 @@
 -- What waits in the queues once a context has come in.
-use Rattle.std.proofs.Common.{◌≡◌, ◌≤◌, List, [], ◌∷◌, ◌++◌, length, refl, ap, sym, ◌∙◌, Bool, true, false, cond, arith, subst}
+use Rattle.std.proofs.Common.{◌≡◌, List, [], ◌∷◌, ◌++◌, length, refl, ap, sym, ◌∙◌, Bool, true, false, cond, arith, subst}
 use Rattle.std.specs.Prelude.{IfSome, Some, slice_get, ◌&&◌, ◌==◌}
 use Rattle.wx_id.specs.declared.numbers.ContextNo.{ContextNo}
 use Rattle.wx_id.specs.declared.events.Event.{Event}

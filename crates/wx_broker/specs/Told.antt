@@ -1,5 +1,5 @@
 -- How the broker's tables tell a journal: its contexts, channels, requests and hosts, and what waits for each.
-use Rattle.std.specs.Prelude.{◌≡◌, ℕ, ◌≤◌, length, List, Bool, true, false, Option, Some, None, IfSome, reverse, slice_get}
+use Rattle.std.specs.Prelude.{◌≡◌, ◌≤◌, length, List, true, false, Option, Some, None, IfSome, reverse, slice_get}
 use Rattle.std.specs.Option.{option_map}
 use Rattle.wx_id.specs.declared.numbers.ContextNo.{ContextNo}
 use Rattle.wx_id.specs.declared.numbers.HostNo.{HostNo}

@@ -1,4 +1,4 @@
-use Rattle.std.proofs.Common.{◌≡◌, ◌∙◌, sym, true, false}
+use Rattle.std.proofs.Common.{◌∙◌, sym, true, false}
 use Rattle.std.specs.Prelude.{reverse}
 use Rattle.wx_broker.proofs.ReceiversLater.{heard_as}
 use Rattle.wx_broker.proofs.broker.Broker.where_heard.Goals as goal
