@@ -1,6 +1,8 @@
 -- What the kit has come to between two frames.
 use Rattle.std.specs.Prelude.{◌≡◌, ℕ, ◌<◌, ◌≤◌, List, [], ◌++◌, length, take, drop, Option, Some, None, option_to_list}
 use Rattle.wx_native_frame.specs.Frames.{Unfinished, frame, IsUnderWay}
+use Rattle.wx_native_frame.specs.declared.FrameFault.{FrameFault}
+use Rattle.wx_native_frame.specs.declared.FrameFault.TheVariants as fault
 use Rattle.wx_native_frame.specs.Splits.{frames, AllFit}
 use Rattle.wx_outside.specs.Causes.{Rose}
 use Rattle.wx_outside.specs.Sink.{added}
@@ -20,6 +22,12 @@ IsReplyEnd reply text part before now WriteFailed = Rose before.faults now.fault
     × ((n : ℕ) × (part ≡ take n (frame next))))
 IsReplyEnd reply text part before now NoMemory = part ≡ []
 IsReplyEnd reply text part before now _ = ⊥
+
+-- the end that a reader's fault is
+abbrev pub end_of_fault : FrameFault → KitEnd
+end_of_fault (fault.TooLong n) = TooLong n
+end_of_fault (fault.BadJson f) = BadJson f
+end_of_fault fault.NoMemory = NoMemory
 
 -- what the answer to a text comes to: its reply was written, where it has one; or the kit ends
 abbrev pub Replied : Reply → List ℕ → InState → InState → Option KitEnd → Type 0
@@ -44,12 +52,17 @@ pub record IsOver (reply : Reply) (bytes : List ℕ) (old new : OutState) (befor
   pub sent : now.sent ≡ added before.sent (frames (replies reply texts) ++ part)
   pub cause : IsKitEnd reply rest part old new before now end
 
--- what a step within a piece comes to: a frame was answered, and so much of the piece used; all of it was used, and a
--- frame is under way; or the kit ends, whatever its input tells
+-- how far a step within a piece goes: over a frame, with which some of the piece was used; or over all of it, where a
+-- frame is under way
+abbrev pub Goes : (piece left : List ℕ) → Went → Type 0
+Goes piece left (Used n) = (0 < n) × (n ≤ length piece) × (left ≡ [])
+Goes piece left All = IsUnderWay left longest_read
+Goes piece left (Ended end) = Unit {0}
+
+-- what it comes to: a frame more was answered; none was; or the kit ends, whatever its input tells
 abbrev pub Comes : Reply → (bytes piece left : List ℕ) → InState → InState → Went → Type 0
-Comes reply bytes piece left before now (Used n) = (0 < n) × (n ≤ length piece) × (left ≡ [])
-    × IsServing reply bytes (drop n piece) before now
-Comes reply bytes piece left before now All = IsUnderWay left longest_read × IsServing reply bytes left before now
+Comes reply bytes piece left before now (Used n) = IsServing reply bytes (drop n piece) before now
+Comes reply bytes piece left before now All = IsServing reply bytes left before now
 Comes reply bytes piece left before now (Ended end) = (old new : OutState) → IsOver reply bytes old new before now end
 
 -- The kit reads on: it has read some bytes, answered each frame in them, and has one under way.

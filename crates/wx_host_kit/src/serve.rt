@@ -2,8 +2,8 @@
 ghost use Rattle.std.specs.Prelude.{◌≡◌, ◌++◌, ◌≤◌, ◌<◌, List, ℕ, [], Some, IfOk, MatchOption};
 ghost use Rattle.wx_native_frame.specs.Frames.{IsUnderWay};
 ghost use Rattle.wx_host_launch.specs.Pipes.{OutState, InState};
-ghost use Rattle.wx_host_kit.specs.Kit.{Reply, IsServed, longest_read};
-ghost use Rattle.wx_host_kit.specs.Serving.{Replied, IsServing, IsOver, Comes, ReadsOn};
+ghost use Rattle.wx_host_kit.specs.Kit.{Reply, HasEnded, IsKitEnd, IsServed, longest_read};
+ghost use Rattle.wx_host_kit.specs.Serving.{end_of_fault, Replied, IsServing, IsOver, Goes, Comes, ReadsOn};
 
 use crate::KitEnd;
 use crate::handler::Handler;
@@ -81,7 +81,9 @@ fn answer<O: HostIn>(
 }
 
 /// The end that a fault is.
-fn end_of_fault(fault: FrameFault) -> KitEnd {
+fn end_of_fault(fault: FrameFault) -> KitEnd
+    ensures { result ≡ end_of_fault fault }
+{
     match fault {
         FrameFault::TooLong { len } => KitEnd::TooLong { len },
         FrameFault::BadJson(found) => KitEnd::BadJson(found),
@@ -90,7 +92,11 @@ fn end_of_fault(fault: FrameFault) -> KitEnd {
 }
 
 /// The end where the input has ended.
-fn end_of_input(reader: &FrameReader) -> KitEnd {
+fn end_of_input(reader: &FrameReader) -> KitEnd
+    requires { IsUnderWay reader.now.bytes longest_read }
+    ensures { (reply : Reply) (old new : OutState) (before now : InState) → HasEnded new →
+        IsKitEnd reply reader.now.bytes [] old new before now result }
+{
     match reader.finish() {
         Ok(()) => KitEnd::Exited,
         Err(cut) => KitEnd::Cut { have: cut.have },
@@ -108,6 +114,7 @@ fn step_in<O: HostIn>(
     requires limit { reader.old.limit ≡ longest_read }
     requires under_way { IsUnderWay reader.old.bytes longest_read }
     ensures limit { reader.new.limit ≡ longest_read }
+    ensures goes { Goes piece.now reader.new.bytes result }
     ensures came { (bytes : List ℕ) (before : InState) →
         IsServing (reply handler.old) bytes (reader.old.bytes ++ piece.now) before (O.state output.old) →
         Comes (reply handler.old) bytes piece.now reader.new.bytes before (O.state output.new) result }
