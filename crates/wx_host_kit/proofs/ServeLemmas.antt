@@ -1,8 +1,9 @@
 -- Serving, frame by frame and piece by piece.
-use Rattle.std.proofs.Common.{◌≡◌, ℕ, ◌+◌, ◌<◌, ◌≤◌, ◌==◌, zero, suc, Bool, true, false, List, [], ◌∷◌, ◌++◌, length, take, drop, Option, Some, None, refl, ap, ◌∙◌, sym, subst, arith, append_assoc}
+use Rattle.std.proofs.Common.{◌≡◌, ℕ, ◌+◌, ◌<◌, ◌≤◌, ◌==◌, zero, suc, Bool, true, false, List, [], ◌∷◌, ◌++◌, length, drop, Option, Some, None, refl, ap, ◌∙◌, sym, subst, arith, append_assoc, length-drop, drop-drop, drop_of_length-le}
 use Rattle.std.specs.Prelude.{IfSome, MatchOption}
 use Rattle.std.specs.Option.{option_to_list}
 use Rattle.std.proofs.lemmas.List.{append-nil, take_all}
+use Rattle.std.proofs.Math.Dec.{eqb-suc-zero}
 use Rattle.wx_json.specs.Text.{IsJsonText}
 use Rattle.wx_native_frame.specs.Frames.{Unfinished, frame, IsFrame, IsUnderWay, EndsFrame}
 use Rattle.wx_native_frame.specs.Splits.{frames, AllFit, IsSplit}
@@ -76,8 +77,8 @@ serves_on reply bytes b piece t used before mid now h ends (sent, fit) le =
     }
 
 cause_at_reply : (reply : Reply) (rest part t behind : List ℕ) (old new : OutState) (before mid now : InState) (end : KitEnd) → before.faults ≤ mid.faults → rest ≡ frame t ++ behind → IsJsonText t → length t ≤ longest_read → IsReplyEnd reply t part mid now end → IsKitEnd reply rest part old new before now end
-cause_at_reply reply rest part t behind old new before mid now (ReplyTooLong n) le is json fits (none, long, next, replied, size) = (none, long, next, record { text = t; behind = behind; rest_is = is; json = json; fits = fits; is = replied }, size)
-cause_at_reply reply rest part t behind old new before mid now WriteFailed le is json fits (rose, next, replied, short, n, front) = (omega arith, next, record { text = t; behind = behind; rest_is = is; json = json; fits = fits; is = replied }, short, n, front)
+cause_at_reply reply rest part t behind old new before mid now (ReplyTooLong n) le is json fits (none, long, (next, replied, size)) = (none, long, (next, record { text = t; behind = behind; rest_is = is; json = json; fits = fits; is = replied }, size))
+cause_at_reply reply rest part t behind old new before mid now WriteFailed le is json fits (rose, (next, replied, short, front)) = (omega arith, (next, record { text = t; behind = behind; rest_is = is; json = json; fits = fits; is = replied }, short, front))
 cause_at_reply reply rest part t behind old new before mid now NoMemory le is json fits h = h
 cause_at_reply reply rest part t behind old new before mid now Exited le is json fits h = absurd h
 cause_at_reply reply rest part t behind old new before mid now (TooLong n) le is json fits h = absurd h
@@ -114,6 +115,42 @@ pub record IsWithin (reply same_reply : Reply) (start reader : Unfinished) (piec
 
 pub nothing_under_way : (left : List ℕ) → left ≡ [] → IsUnderWay left longest_read
 nothing_under_way left e = let P : List ℕ → Type 0 = λ x. IsUnderWay x longest_read in subst P (sym e) (short_under_way [] longest_read (omega arith))
+
+-- within a piece another frame was answered, or none, or the kit ended
+pub within_next : (reply other same_reply : Reply) (start reader after : Unfinished) (piece rest : List ℕ) (at n : ℕ) (first mid now : InState) → IsWithin reply other start reader piece at first mid → rest ≡ drop at piece → same_reply ≡ other → after.limit ≡ longest_read → (0 < n) × (n ≤ length rest) × (after.bytes ≡ []) → ((bytes : List ℕ) (before : InState) → IsServing other bytes (reader.bytes ++ rest) before mid → IsServing other bytes (drop n rest) before now) → IsWithin reply same_reply start after piece (at + n) first now
+within_next reply other same_reply start reader after piece rest at n first mid now w is same limit (some, few, none) h =
+    let long : length rest ≡ length (drop at piece) = ap length is in
+    let size = length-drop at piece in
+    let inside = w.inside in
+    record {
+      same = same ∙ w.same;
+      inside = omega arith;
+      limit = limit;
+      under_way = nothing_under_way after.bytes none;
+      serves = λ bytes before so.
+          let P : List ℕ → Type 0 = λ x. IsServing reply bytes x before now in
+          let back : drop n rest ≡ after.bytes ++ drop (at + n) piece = ap (drop n) is ∙ drop-drop n at piece ∙ ap (λ x. x ++ drop (at + n) piece) (sym none) in
+          subst P back (serves bytes before (w.serves bytes before so));
+    }
+  where
+    serves : (bytes : List ℕ) (before : InState) → IsServing reply bytes (reader.bytes ++ drop at piece) before mid → IsServing reply bytes (drop n rest) before now
+    serves bytes before so =
+        let R : Reply → Type 0 = λ x. (bytes : List ℕ) (before : InState) → IsServing x bytes (reader.bytes ++ rest) before mid → IsServing x bytes (drop n rest) before now in
+        let P : List ℕ → Type 0 = λ x. IsServing reply bytes (reader.bytes ++ x) before mid in
+        subst R w.same h bytes before (subst P (sym is) so)
+
+-- a fact of what is served, of the rest of a piece and of the handler as it stands, is one of the whole piece
+pub within_last : (reply other : Reply) (start reader : Unfinished) (piece rest : List ℕ) (at : ℕ) (first mid : InState) (T : Reply → List ℕ → InState → Type 0) → IsWithin reply other start reader piece at first mid → rest ≡ drop at piece → ((bytes : List ℕ) (before : InState) → IsServing other bytes (reader.bytes ++ rest) before mid → T other bytes before) → (bytes : List ℕ) (before : InState) → IsServing reply bytes (start.bytes ++ piece) before first → T reply bytes before
+within_last reply other start reader piece rest at first mid T w is h bytes before so =
+    let R : Reply → Type 0 = λ x. (bytes : List ℕ) (before : InState) → IsServing x bytes (reader.bytes ++ rest) before mid → T x bytes before in
+    let P : List ℕ → Type 0 = λ x. IsServing reply bytes (reader.bytes ++ x) before mid in
+    subst R w.same h bytes before (subst P (sym is) (w.serves bytes before so))
+
+-- behind the last byte of a piece
+pub within_all : (reply other : Reply) (start reader : Unfinished) (piece : List ℕ) (at : ℕ) (first now : InState) → IsWithin reply other start reader piece at first now → length piece ≤ at → (bytes : List ℕ) (before : InState) → IsServing reply bytes (start.bytes ++ piece) before first → IsUnderWay reader.bytes longest_read × IsServing reply bytes reader.bytes before now
+within_all reply other start reader piece at first now w le bytes before so =
+    let P : List ℕ → Type 0 = λ x. IsServing reply bytes x before now in
+    (w.under_way, subst P (ap (λ x. reader.bytes ++ x) (drop_of_length-le piece le) ∙ append-nil reader.bytes) (w.serves bytes before so))
 
 -- Piece by piece
 
@@ -153,7 +190,7 @@ served reply reader old mid new before now end so given why =
 pub same_end : (was ended : Bool) (n : ℕ) → 0 < n → ended ≡ (n == 0) → (was ≡ true → n ≡ 0) → ended ≡ was
 same_end true ended n some is none = let e = none refl in absurd (omega arith)
 same_end false ended zero some is none = absurd (omega arith)
-same_end false ended (suc n) some is none = is
+same_end false ended (suc n) some is none = is ∙ eqb-suc-zero n
 
 -- what a piece comes to that was read
 pub piece_read : (reply : Reply) (reader after : Unfinished) (piece : List ℕ) (old mid new : OutState) (before now later : InState) (r : Option KitEnd) → ReadsOn reply reader old mid before now → Gives mid.stream new.stream piece → mid.faults ≤ new.faults → new.ended ≡ mid.ended → after.limit ≡ longest_read

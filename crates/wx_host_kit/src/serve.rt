@@ -156,7 +156,8 @@ fn answer_piece<O: HostIn>(
 {
     let mut at = 0;
     while at < piece.len() {
-        match step_in(handler, reader, &piece[at..], output, frame) {
+        let (_, rest) = piece.split_at(at);
+        match step_in(handler, reader, rest, output, frame) {
             Went::Used(used) => at += used,
             Went::All => return None,
             Went::Ended(end) => return Some(end),
