@@ -1,2 +1,3 @@
 pub mod Kit
 pub mod Serving
+pub mod Calls

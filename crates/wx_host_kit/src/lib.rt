@@ -2,10 +2,16 @@
 #![tactic(auto)]
 
 mod handler;
+mod host_call;
+#[cfg(test)]
+mod rows;
 mod serve;
+mod streams;
 
 pub use handler::{Echo, Handler};
+pub use host_call::{is_host_call, wx_as_host};
 pub use serve::serve_kit;
+pub use streams::{StreamInput, StreamOutput};
 pub use wx_host_launch::{Failed, HostIn, HostOut};
 pub use wx_id::NoMemory;
 use wx_json::JsonFault;

@@ -30,7 +30,7 @@ loop-at-smaller g c =
 pub loop-at-preserved : goal.loop-at-preserved
 loop-at-preserved g c =
     let rest_is : c.split_at.result.1.now ≡ drop c.loop-at.at c.args.piece.now = search rules in
-    within_next ((goal.Handler-dyn g (c.args.handler.now.vtable, c.args.handler.now.value)).reply c.args.handler.now.value) ((goal.Handler-dyn g (c.loop-at.handler.vtable, c.loop-at.handler.value)).reply c.loop-at.handler.value) _ c.args.reader.now c.loop-at.reader c.step_in.new.reader c.args.piece.now c.split_at.result.1.now c.loop-at.at c.in-Used.used _ _ _ c.loop-at.invariant rest_is c.step_in.ensures.same c.step_in.ensures.limit c.in-Used.ensures.goes c.in-Used.ensures.came
+    within_next ((goal.Handler-dyn g (c.args.handler.now.vtable, c.args.handler.now.value)).reply c.args.handler.now.value) ((goal.Handler-dyn g (c.loop-at.handler.vtable, c.loop-at.handler.value)).reply c.loop-at.handler.value) ((goal.Handler-dyn g (c.step_in.new.handler.vtable, c.step_in.new.handler.value)).reply c.step_in.new.handler.value) c.args.reader.now c.loop-at.reader c.step_in.new.reader c.args.piece.now c.split_at.result.1.now c.loop-at.at c.in-Used.used (g.O.HostIn.state c.args.output.now) (g.O.HostIn.state c.loop-at.output) (g.O.HostIn.state c.step_in.new.output) c.loop-at.invariant rest_is c.step_in.ensures.same c.step_in.ensures.limit c.in-Used.ensures.goes c.in-Used.ensures.came
 
 pub returns-in-All-clause-came : goal.returns-in-All-clause-came
 returns-in-All-clause-came g c = λ bytes before so.
