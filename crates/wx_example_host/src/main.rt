@@ -31,14 +31,14 @@ impl Handler for Answers {
 }
 
 /// The handler; none where memory was refused.
-fn answers(alloc: Global) -> Option<Answers> {
+fn handler(alloc: Global) -> Option<Answers> {
     let pong = JsonText::new(Vec::from_slice(alloc, PONG).ok()?).ok()?;
     Some(Answers { pong })
 }
 
 fn main(rt: HostRuntime) -> ExitCode {
     let alloc = rt.alloc();
-    let boxed = match answers(alloc) {
+    let boxed = match handler(alloc) {
         Some(answers) => Box::new(alloc, answers).ok(),
         None => None,
     };
