@@ -4,6 +4,9 @@
 ghost use Rattle.std.specs.Prelude.{◌≡◌, ◌∷◌, [], MatchOption, option_copied};
 ghost use Rattle.wx_pipe.specs.Pipe as pipe;
 
+#[cfg(test)]
+mod rows;
+
 use wx_id::{ChannelNo, ContextNo, EntryNo, EventKind};
 use wx_journal::Journal;
 use wx_machine::{Answer, Call, Entry, JsonText, Who};
