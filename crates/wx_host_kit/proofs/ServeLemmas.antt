@@ -14,7 +14,7 @@ use Rattle.wx_outside.specs.Sink.{added}
 use Rattle.wx_host_launch.specs.Pipes.{Stream, InState, OutState, Gives}
 use Rattle.wx_host_kit.specs.declared.KitEnd.{KitEnd}
 use Rattle.wx_host_kit.specs.declared.KitEnd.TheVariants.{Exited, TooLong, BadJson, Cut, ReplyTooLong, ReadFailed, WriteFailed, NoMemory}
-use Rattle.wx_host_kit.specs.Kit.{Reply, replies, longest_read, longest_reply, HasAnswered, IsNextReply, IsKitEnd, IsServed}
+use Rattle.wx_host_kit.specs.Kit.{Reply, replies, longest_read, longest_reply, IsKitEnd, IsServed}
 use Rattle.wx_host_kit.specs.Echoes.{EchoLaw}
 use Rattle.wx_host_kit.specs.Serving.{IsReplyEnd, Replied, IsServing, IsOver, ReadsOn}
 
