@@ -1,5 +1,5 @@
-//! A native host with a handler of one's own: to `{"op":"ping"}` it replies `{"op":"pong"}`, and to other messages not at
-//! all.
+//! A native host with a handler of one's own: to `{"op":"ping"}` it replies `{"op":"pong"}`, and to other messages
+//! not at all.
 #![tactic(auto)]
 
 use std::alloc::Global;

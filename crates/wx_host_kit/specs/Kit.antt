@@ -9,7 +9,8 @@ use Rattle.wx_outside.specs.Causes.{Rose}
 use Rattle.wx_outside.specs.Sink.{added}
 use Rattle.wx_host_launch.specs.Pipes.{InState, OutState, Gives, NoneComes}
 use Rattle.wx_host_kit.specs.declared.KitEnd.{KitEnd}
-use Rattle.wx_host_kit.specs.declared.KitEnd.TheVariants.{Exited, TooLong, BadJson, Cut, ReplyTooLong, ReadFailed, WriteFailed, NoMemory}
+use Rattle.wx_host_kit.specs.declared.KitEnd.TheVariants.{Exited, TooLong, BadJson, Cut}
+use Rattle.wx_host_kit.specs.declared.KitEnd.TheVariants.{ReplyTooLong, ReadFailed, WriteFailed, NoMemory}
 
 -- the most bytes of a text that is read, and of a reply
 abbrev pub longest_read : ℕ
