@@ -1,5 +1,5 @@
-//! A native host with a handler of one's own: to `{"op":"ping"}` it replies `{"op":"pong"}`, and to other messages not at
-//! all.
+//! A native host with a handler of one's own: to `{"op":"ping"}` it replies `{"op":"pong"}`, and to other messages
+//! not at all.
 #![tactic(auto)]
 
 use std::alloc::Global;
@@ -31,14 +31,14 @@ impl Handler for Answers {
 }
 
 /// The handler; none where memory was refused.
-fn answers(alloc: Global) -> Option<Answers> {
+fn handler(alloc: Global) -> Option<Answers> {
     let pong = JsonText::new(Vec::from_slice(alloc, PONG).ok()?).ok()?;
     Some(Answers { pong })
 }
 
 fn main(rt: HostRuntime) -> ExitCode {
     let alloc = rt.alloc();
-    let boxed = match answers(alloc) {
+    let boxed = match handler(alloc) {
         Some(answers) => Box::new(alloc, answers).ok(),
         None => None,
     };

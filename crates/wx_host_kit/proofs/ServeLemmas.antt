@@ -14,7 +14,8 @@ use Rattle.wx_outside.specs.Sink.{added}
 use Rattle.wx_host_launch.specs.Pipes.{Stream, InState, OutState, Gives}
 use Rattle.wx_host_kit.specs.declared.KitEnd.{KitEnd}
 use Rattle.wx_host_kit.specs.declared.KitEnd.TheVariants.{Exited, TooLong, BadJson, Cut, ReplyTooLong, ReadFailed, WriteFailed, NoMemory}
-use Rattle.wx_host_kit.specs.Kit.{Reply, replies, longest_read, longest_reply, HasAnswered, IsNextReply, IsKitEnd, IsServed}
+use Rattle.wx_host_kit.specs.Kit.{Reply, replies, longest_read, longest_reply, IsKitEnd, IsServed}
+use Rattle.wx_host_kit.specs.Echoes.{EchoLaw}
 use Rattle.wx_host_kit.specs.Serving.{IsReplyEnd, Replied, IsServing, IsOver, ReadsOn}
 
 -- One text more
@@ -241,3 +242,37 @@ once_more reply other reader after old mid new before now later r e so h =
     let R : Reply → Type 0 = λ x. ReadsOn x reader old mid before now in
     let M : Reply → Type 0 = λ x. MatchOption r (ReadsOn x after old new before later) (IsServed x old new before later) in
     subst M e (h old before (subst R (sym e) so))
+
+-- The echo
+
+abbrev echo : Reply
+echo = λ text. Some text
+
+echo_replies : (ts : List (List ℕ)) → replies echo ts ≡ ts
+echo_replies [] = refl
+echo_replies (t ∷ ts) = ap (λ x. t ∷ x) (echo_replies ts)
+
+-- only a failed write leaves a part of a frame
+no_part : (reply : Reply) (rest part : List ℕ) (old new : OutState) (before now : InState) (end : KitEnd) → IsKitEnd reply rest part old new before now end → (end ≡ WriteFailed → ⊥) → part ≡ []
+no_part reply rest part old new before now Exited h n = h.0
+no_part reply rest part old new before now (TooLong len) h n = h.0
+no_part reply rest part old new before now (BadJson f) h n = h.0
+no_part reply rest part old new before now (Cut have) h n = h.0
+no_part reply rest part old new before now (ReplyTooLong len) h n = h.0
+no_part reply rest part old new before now ReadFailed h n = h.0
+no_part reply rest part old new before now WriteFailed h n = absurd (n refl)
+no_part reply rest part old new before now NoMemory h n = h
+
+-- what a kit wrote that serves by the echo
+pub echoed : EchoLaw
+echoed old new before now end h = record {
+  bytes = h.bytes;
+  given = h.given;
+  texts = h.texts;
+  rest = h.rest;
+  read = h.answered.bytes_are;
+  fit = h.answered.texts_fit;
+  part = h.part;
+  sent = h.sent ∙ ap (λ ts. added before.sent (frames ts ++ h.part)) (echo_replies h.texts);
+  whole = no_part echo h.rest h.part old new before now end h.cause;
+}

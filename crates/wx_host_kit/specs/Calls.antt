@@ -2,7 +2,8 @@
 use Rattle.std.specs.Prelude.{ℕ, Bool, false, List, [], ◌∷◌, is_some}
 use Rattle.wx_host_manifest.specs.Origins.{caller_of}
 use Rattle.wx_host_kit.specs.declared.KitEnd.{KitEnd}
-use Rattle.wx_host_kit.specs.declared.KitEnd.TheVariants.{Exited, TooLong, BadJson, Cut, ReplyTooLong, ReadFailed, WriteFailed, NoMemory}
+use Rattle.wx_host_kit.specs.declared.KitEnd.TheVariants.{Exited, TooLong, BadJson, Cut}
+use Rattle.wx_host_kit.specs.declared.KitEnd.TheVariants.{ReplyTooLong, ReadFailed, WriteFailed, NoMemory}
 
 -- the first word is the origin of an extension
 abbrev pub is_host_call : List (List ℕ) → Bool

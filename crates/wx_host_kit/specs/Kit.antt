@@ -1,6 +1,6 @@
 -- The host's side of native messaging: a program reads frames, and writes a reply, or none, to each (Chrome's "Native
 -- messaging": a message to a host has at most 64 MiB, one from it at most 1 MiB).
-use Rattle.std.specs.Prelude.{◌≡◌, ℕ, ◌<◌, ◌≤◌, true, List, [], ◌∷◌, ◌++◌, length, take, Option, Some, None, option_to_list}
+use Rattle.std.specs.Prelude.{◌≡◌, ℕ, ◌<◌, ◌≤◌, true, List, [], ◌∷◌, ◌++◌, length, take, Option, Some, option_to_list}
 use Rattle.wx_json.specs.Text.{IsJsonText}
 use Rattle.wx_native_frame.specs.Frames.{frame, IsTrouble, IsUnderWay}
 use Rattle.wx_native_frame.specs.Splits.{frames, AllFit}
@@ -9,7 +9,8 @@ use Rattle.wx_outside.specs.Causes.{Rose}
 use Rattle.wx_outside.specs.Sink.{added}
 use Rattle.wx_host_launch.specs.Pipes.{InState, OutState, Gives, NoneComes}
 use Rattle.wx_host_kit.specs.declared.KitEnd.{KitEnd}
-use Rattle.wx_host_kit.specs.declared.KitEnd.TheVariants.{Exited, TooLong, BadJson, Cut, ReplyTooLong, ReadFailed, WriteFailed, NoMemory}
+use Rattle.wx_host_kit.specs.declared.KitEnd.TheVariants.{Exited, TooLong, BadJson, Cut}
+use Rattle.wx_host_kit.specs.declared.KitEnd.TheVariants.{ReplyTooLong, ReadFailed, WriteFailed, NoMemory}
 
 -- the most bytes of a text that is read, and of a reply
 abbrev pub longest_read : ℕ

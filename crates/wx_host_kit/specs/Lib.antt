@@ -1,3 +1,4 @@
 pub mod Kit
 pub mod Serving
 pub mod Calls
+pub mod Echoes

@@ -8,10 +8,10 @@ use Rattle.wx_outside.specs.Causes.{Rose}
 use Rattle.wx_outside.specs.Sink.{added}
 use Rattle.wx_host_launch.specs.Pipes.{InState, OutState, Gives}
 use Rattle.wx_host_kit.specs.declared.KitEnd.{KitEnd}
-use Rattle.wx_host_kit.specs.declared.KitEnd.TheVariants.{Exited, TooLong, BadJson, Cut, ReplyTooLong, ReadFailed, WriteFailed, NoMemory}
+use Rattle.wx_host_kit.specs.declared.KitEnd.TheVariants.{TooLong, BadJson, ReplyTooLong, WriteFailed, NoMemory}
 use Rattle.wx_host_kit.specs.declared.serve.Went.{Went}
 use Rattle.wx_host_kit.specs.declared.serve.Went.TheVariants.{Used, All, Ended}
-use Rattle.wx_host_kit.specs.Kit.{Reply, replies, longest_read, longest_reply, HasAnswered, IsKitEnd, IsServed}
+use Rattle.wx_host_kit.specs.Kit.{Reply, replies, longest_read, longest_reply, HasAnswered, IsKitEnd}
 
 -- why the kit ends at a reply of which this part was written
 abbrev pub IsReplyEnd : Reply → (text part : List ℕ) → (before now : InState) → KitEnd → Type 0

@@ -1,5 +1,5 @@
 use Rattle.std.proofs.Common.{◌≡◌, ◌+◌, ◌-◌, ◌<◌, drop, length, refl, ap, ◌∙◌, arith, rules, length-drop}
-use Rattle.wx_host_launch.specs.Pipes.{InState, OutState}
+use Rattle.wx_host_launch.specs.Pipes.{OutState}
 use Rattle.wx_host_kit.specs.Serving.{IsServing, IsOver}
 use Rattle.wx_host_kit.proofs.ServeLemmas.{within_next, within_last, within_all}
 use Rattle.wx_host_kit.proofs.serve.answer_piece.Goals as goal
