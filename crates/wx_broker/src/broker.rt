@@ -212,7 +212,7 @@ impl Broker {
         ensures event { result ≡ is_event (answer_of self.now.world self.now.entries (Who.Context c) Call.Take) }
         ensures pending { result ≡ has_pending (reverse self.now.entries) c }
     {
-        is_event(self.take_answer(c))
+        self.tables.first(c).is_some() && self.is_live(c)
     }
 
     /// How many contexts entered.

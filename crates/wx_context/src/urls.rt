@@ -16,7 +16,7 @@ const LIMIT: usize = 67_108_864;
 /// which the standard's parser reads the same URL again.
 #[derive(Debug, Drop)]
 pub struct WebUrl {
-    url: Url,
+    url: Box<Url>,
 }
 
 impl Model for WebUrl {
@@ -26,9 +26,9 @@ impl Model for WebUrl {
 
     ghost Value = { List ℕ };
 
-    ghost view = { λ w. serialize w.url };
+    ghost view = { λ w. serialize w.url.value };
 
-    ghost invariant = { λ w. IsTrue (is_web w.url) };
+    ghost invariant = { λ w. IsTrue (is_web w.url.value) };
 }
 
 /// Why a text is not read as the address of a document on the web.
@@ -62,10 +62,12 @@ impl WebUrl {
         }
         match Url::parse(alloc, text) {
             Ok(url) => {
-                if is_web(&url) {
-                    Ok(WebUrl { url })
-                } else {
-                    Err(UrlFault::BadUrl)
+                if !is_web(&url) {
+                    return Err(UrlFault::BadUrl);
+                }
+                match Box::new(alloc, url) {
+                    Ok(url) => Ok(WebUrl { url }),
+                    Err(_) => Err(UrlFault::NoMemory),
                 }
             }
             Err(ParseError::OutOfMemory | ParseError::Overflow) => Err(UrlFault::NoMemory),
@@ -79,15 +81,19 @@ impl WebUrl {
         ensures parsed { parse_url None self.now ≡ Ok result.now }
         ensures sort { IsTrue (urls.is_web_url self.now) }
     {
-        let _own_text = self.url.as_str();
-        &self.url
+        let url = self.url.as_ref();
+        let _own_text = url.as_str();
+        url
     }
 
     /// An equal address.
     pub fn try_clone(&self) -> Result<WebUrl, NoMemory>
         ensures { IfOk result (λ copy. copy ≡ self.now) }
     {
-        let url = self.url.clone()?;
-        Ok(WebUrl { url })
+        let url = self.url.as_ref().clone()?;
+        let alloc = *Box::allocator(&self.url);
+        Ok(WebUrl {
+            url: Box::new(alloc, url)?,
+        })
     }
 }

@@ -345,11 +345,36 @@ fn put_entry(out: &mut Vec<u8>, e: &Entry) -> Result<(), AllocError>
     put(out, b"\n")
 }
 
+/// The room that an entry's line is likely to need: that of the texts which its call carries, and 48 bytes for the rest.
+fn usual_room(call: &Call) -> usize {
+    let texts = match call {
+        Call::Post(_, text)
+        | Call::Send(_, text)
+        | Call::Reply(_, text)
+        | Call::HostSaid(text) => text.bytes().len(),
+        Call::Connect(_, name) | Call::ConnectNative(name) => name.as_str().len(),
+        Call::SendNative(name, text) => name.as_str().len().saturating_add(text.bytes().len()),
+        _ => 0,
+    };
+    texts.saturating_add(48)
+}
+
+/// The room that the lines of these entries are likely to need. Room that a text never fills costs no memory, and one
+/// that needs more grows.
+fn room_for(entries: &[Entry]) -> usize {
+    let mut room: usize = 0;
+    for e in entries {
+        room = room.saturating_add(usual_room(&e.call));
+    }
+    room
+}
+
 /// The text of these entries, oldest first.
 pub fn print(alloc: Global, entries: &[Entry]) -> Result<Vec<u8>, AllocError>
     ensures { IfOk result (λ text. text.items ≡ journal_text entries.now) }
 {
     let mut out = Vec::new(alloc);
+    out.reserve(room_for(entries))?;
     put(&mut out, b"wx journal 1 chrome\n")?;
     for e in entries {
         put_entry(&mut out, e)?;

@@ -149,6 +149,14 @@ impl Mailbox {
         let Some(wanted) = n.checked_add(self.spare + self.owed) else {
             return Err(NoMemory);
         };
+        let capacity = self.queue.capacity();
+        if wanted <= capacity - self.queue.len() {
+            return Ok(());
+        }
+        // A queue grows by its length, and the places that are kept are no part of that: so they are doubled here.
+        if wanted < capacity && self.queue.reserve(capacity).is_ok() {
+            return Ok(());
+        }
         self.queue.reserve(wanted)?;
         Ok(())
     }
