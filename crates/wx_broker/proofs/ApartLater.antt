@@ -14,7 +14,7 @@ use Rattle.wx_machine.specs.declared.entries.Answer.{Answer}
 use Rattle.wx_machine.specs.declared.entries.Answer.TheVariants.{Channel as OnChannel, Request as OnRequest}
 use Rattle.wx_machine.specs.declared.entries.Entry.{Entry}
 use Rattle.wx_machine.specs.Words.{asked_by, asks, channel, channels, Ends, is_receiver, numbers, opened_by, opens, Parties, receivers_of, request, requests}
-use Rattle.wx_walks.proofs.EndsLater.{channel_more, place_more}
+use Rattle.wx_laws.proofs.ChannelsLater.{channel_more, place_more}
 use Rattle.wx_broker.proofs.LivesLater.{among_passing}
 use Rattle.wx_broker.proofs.TestsLater.{not_not, same_self}
 

@@ -24,7 +24,7 @@ use Rattle.wx_machine.specs.Words.{host_disconnected, host_unanswered, is_asker,
 use Rattle.wx_machine.specs.Words.{channels, requests, settles, side_of, tells, unanswered_on, work_of}
 use Rattle.wx_port.specs.Port.{Port, closed, is_open_port}
 use Rattle.wx_one_shot.specs.Requests.{Request, is_settled_at, settled, without}
-use Rattle.wx_walks.proofs.Past.{reverse-push}
+use Rattle.wx_laws.proofs.Newest.{reverse-push}
 use Rattle.wx_broker.specs.Tables.{port_said, request_said, HasChannels, HasRequests, IfRequest, IsKept, is_done, is_first, is_over_at}
 use Rattle.wx_broker.proofs.HostsLater.{over_is}
 use Rattle.wx_broker.proofs.KeptLater.{kept_declined, kept_disconnected, kept_quiet, kept_replied}

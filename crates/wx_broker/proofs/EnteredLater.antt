@@ -11,7 +11,7 @@ use Rattle.wx_machine.specs.declared.entries.Answer.TheVariants.{Entered}
 use Rattle.wx_machine.specs.declared.entries.Entry.{Entry}
 use Rattle.wx_machine.specs.Words.{contexts, pending}
 use Rattle.wx_laws.specs.Legal.{IsLegalPast}
-use Rattle.wx_walks.proofs.EndsLater.{place_more}
+use Rattle.wx_laws.proofs.ChannelsLater.{place_more}
 use Rattle.wx_broker.proofs.TestsLater.{same_is}
 use Rattle.wx_broker.specs.Told.{HasPending}
 use Rattle.wx_broker.proofs.PendingLater.{pending_same}

@@ -17,7 +17,7 @@ use Rattle.wx_native_hosts.specs.Hosts.{HostState, has_ended_in, knows_end_in, s
 use Rattle.wx_native_hosts.specs.Hosts.{work_in as work_in_row}
 use Rattle.wx_native_hosts.specs.declared.hosts.Start.{Start as NativeStart}
 use Rattle.wx_laws.specs.Legal.{IsLegalPast}
-use Rattle.wx_walks.proofs.Past.{reverse-push}
+use Rattle.wx_laws.proofs.Newest.{reverse-push}
 use Rattle.wx_broker.specs.Views.{view_for, view_of, host_view}
 use Rattle.wx_broker.specs.declared.host_view.HostView.{HostView}
 use Rattle.wx_broker.proofs.TestsLater.{outside, same_is}

@@ -25,7 +25,7 @@ use Rattle.wx_machine.specs.declared.entries.Answer.TheVariants.{Channel as OnCh
 use Rattle.wx_machine.specs.declared.entries.TheConstants.{LONGEST_SAID}
 use Rattle.wx_port.specs.Port.{Port, opened, closed, left_by as port_left}
 use Rattle.wx_one_shot.specs.Requests.{Request, asked, settled, without, left_by as request_left}
-use Rattle.wx_walks.proofs.Past.{reverse-push}
+use Rattle.wx_laws.proofs.Newest.{reverse-push}
 use Rattle.wx_broker.specs.Tables.{IsKept, HasChannels, HasRequests, AreAwaited, is_channel, is_request, is_done, is_first, is_quiet}
 use Rattle.wx_broker.proofs.LivesLater.{leave_entry}
 use Rattle.wx_broker.proofs.PortsLater.{channels_kept, channels_opened, channels_opened_native, channels_ended, ended_entry, channels_disconnected, channels_left, disconnect_entry}

@@ -23,7 +23,7 @@ use Rattle.wx_machine.specs.Words.{is_by, is_closed, is_leave, is_live, is_settl
 use Rattle.wx_laws.specs.Legal.{IsLegalPast}
 use Rattle.wx_laws.proofs.Closings.{stays_if}
 use Rattle.wx_laws.proofs.Places.{channel_later, closed_later, lives_on}
-use Rattle.wx_walks.proofs.RequestsLater.{asker_more}
+use Rattle.wx_laws.proofs.RequestsLater.{asker_more}
 use Rattle.wx_broker.proofs.LivesLater.{among_passing, leave_entry, receivers_live}
 use Rattle.wx_broker.proofs.RequestsLater.{settled_more}
 use Rattle.wx_broker.proofs.TestsLater.{all_weaker, and_false, any_passes, has_some, not_not}

@@ -15,7 +15,7 @@ use Rattle.wx_machine.specs.Words.{context_of, has_left, is_by, if_numbered, is_
 use Rattle.wx_machine.specs.declared.entries.Who.TheVariants.{Context as ByContext}
 use Rattle.wx_machine.specs.declared.entries.Call.TheVariants.{Leave}
 use Rattle.wx_id.proofs.ContextLemmas.{same_context_is}
-use Rattle.wx_walks.proofs.Past.{came_more}
+use Rattle.wx_laws.proofs.Newest.{came_more}
 use Rattle.wx_broker.proofs.TestsLater.{same_back, all_weaker, all_filtered}
 
 -- context d came in

@@ -23,8 +23,8 @@ use Rattle.wx_native_hosts.specs.Hosts.{HostState, started}
 use Rattle.wx_native_hosts.specs.declared.hosts.Start.{Start as NativeStart}
 use Rattle.wx_laws.specs.Legal.{IsLegalPast}
 use Rattle.wx_laws.proofs.Numbers.{eqb_refl}
-use Rattle.wx_walks.proofs.TextsLater.{hosts_more}
-use Rattle.wx_walks.proofs.EndsLater.{place_more}
+use Rattle.wx_laws.proofs.HostsLater.{hosts_more}
+use Rattle.wx_laws.proofs.ChannelsLater.{place_more}
 use Rattle.wx_broker.specs.Views.{view_at, view_for}
 use Rattle.wx_broker.specs.declared.host_view.HostView.{HostView}
 use Rattle.wx_broker.proofs.TestsLater.{or_false, same_is}

@@ -25,7 +25,7 @@ use Rattle.wx_laws.specs.Legal.{IsLegalPast}
 use Rattle.wx_laws.proofs.Numbers.{eqb_refl, eqb_below}
 use Rattle.wx_laws.proofs.Messages.{Under, under_more, under_new, under-append}
 use Rattle.wx_laws.proofs.HostTexts.{host_first}
-use Rattle.wx_walks.proofs.TextsLater.{hosts_more}
+use Rattle.wx_laws.proofs.HostsLater.{hosts_more}
 use Rattle.wx_broker.proofs.TestsLater.{filter_twice, grown_or_same}
 
 -- the texts for a host stand in earlier entries, and so do those that it took

@@ -17,7 +17,7 @@ use Rattle.wx_machine.specs.Words.{EachAfter, contexts, numbers, numbers_of, bro
 use Rattle.wx_machine.specs.Words.{reaches_from, context_of, listens_of, hosts, starts, FollowsMachine, answer_after, may_make}
 use Rattle.wx_machine.specs.declared.entries.Who.TheVariants.{Context as ByContext, Host as ByHost}
 use Rattle.wx_machine.specs.declared.entries.Call.TheVariants.{Enter}
-use Rattle.wx_walks.proofs.Past.{reverse-push}
+use Rattle.wx_laws.proofs.Newest.{reverse-push}
 use Rattle.wx_broker.specs.Steps.{KeepsNumbers}
 use Rattle.wx_broker.proofs.LivesLater.{among_passing}
 use Rattle.wx_broker.proofs.TestsLater.{and_false, or_false, same_self, same_back, same_is}

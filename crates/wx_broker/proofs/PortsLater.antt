@@ -25,7 +25,7 @@ use Rattle.wx_machine.specs.declared.entries.Who.TheVariants.{Context as ByConte
 use Rattle.wx_machine.specs.declared.entries.Call.TheVariants.{Connect, ConnectNative, Disconnect, HostEnded, Leave}
 use Rattle.wx_machine.specs.declared.entries.Answer.TheVariants.{Channel as OnChannel, NoEffect, Done, Gone}
 use Rattle.wx_port.specs.Port.{Port, end_of, is_open_port, closed, with_live, opened, left_by}
-use Rattle.wx_walks.proofs.EndsLater.{channels_more, channel_more}
+use Rattle.wx_laws.proofs.ChannelsLater.{channels_more, channel_more}
 use Rattle.wx_broker.specs.Tables.{port_said, HasChannels, is_done}
 use Rattle.wx_broker.proofs.TestsLater.{or_false, and_true, not_not, same_is, has_some, any_passes, filter_where, filter_whole, filter_twice, all_weaker, all_fail, rows_length, rows_changed, rows_more, map_whole, shorter}
 use Rattle.wx_broker.proofs.WorkLater.{other_channel}

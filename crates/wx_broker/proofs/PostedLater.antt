@@ -26,8 +26,8 @@ use Rattle.wx_tables.specs.State.{TablesState, in_entry}
 use Rattle.wx_tables.specs.Ending.{EachQueue, told_end}
 use Rattle.wx_native_hosts.specs.Hosts.{HostState, told}
 use Rattle.wx_native_hosts.specs.Hosts.{work_in as work_in_row}
-use Rattle.wx_walks.proofs.EndsLater.{channel_more}
-use Rattle.wx_walks.proofs.TextsLater.{work_more}
+use Rattle.wx_laws.proofs.ChannelsLater.{channel_more}
+use Rattle.wx_laws.proofs.HostsLater.{work_more}
 use Rattle.wx_broker.specs.Tables.{port_said}
 use Rattle.wx_broker.proofs.KeptLater.{kept_quiet}
 use Rattle.wx_broker.proofs.TestsLater.{same_is, same_self}

@@ -25,8 +25,8 @@ use Rattle.wx_machine.specs.declared.entries.Answer.TheVariants.{Request as OnRe
 use Rattle.wx_machine.specs.declared.entries.TheConstants.{LONGEST}
 use Rattle.wx_one_shot.specs.declared.requests.Standing.TheVariants.{Open, Late, Stranger}
 use Rattle.wx_one_shot.specs.Requests.{Request, asked, settled, left_to, without, left_by, standing_at, is_unsettled_at}
-use Rattle.wx_walks.proofs.EndsLater.{place_more}
-use Rattle.wx_walks.proofs.RequestsLater.{requests_more}
+use Rattle.wx_laws.proofs.ChannelsLater.{place_more}
+use Rattle.wx_laws.proofs.RequestsLater.{requests_more}
 use Rattle.wx_broker.specs.Tables.{request_said, HasRequests, IsAwaited, AreAwaited, is_done, is_first, on_standing}
 use Rattle.wx_broker.proofs.TestsLater.{or_false, and_false, and_true, same_back, same_self, same_is, has_some, nil_test, any_passes, filter_where, filter_whole, filter_twice, all_weaker, all_fail, rows_length, rows_changed, rows_more, map_whole, shorter}
 use Rattle.wx_broker.proofs.WorkLater.{other_request}

@@ -28,9 +28,9 @@ use Rattle.wx_machine.specs.Words.{goes, goes_to, host_disconnected, host_unansw
 use Rattle.wx_machine.specs.Words.{on, opened_by, opens, pending, queued, receivers_of, replied, request, requests, said, settles, side_of, unanswered, unanswered_on, work_by}
 use Rattle.wx_laws.specs.Legal.{IsLegalPast}
 use Rattle.wx_laws.proofs.Numbers.{on_false}
-use Rattle.wx_walks.proofs.Past.{came_more}
-use Rattle.wx_walks.proofs.EndsLater.{came_numbered, end_more}
-use Rattle.wx_walks.proofs.RequestsLater.{asker_more}
+use Rattle.wx_laws.proofs.Newest.{came_more}
+use Rattle.wx_laws.proofs.ChannelsLater.{came_numbered, end_more}
+use Rattle.wx_laws.proofs.RequestsLater.{asker_more}
 use Rattle.wx_broker.proofs.LivesLater.{among_passing, came, live_came}
 use Rattle.wx_broker.proofs.NumbersLater.{numbers_below}
 use Rattle.wx_broker.proofs.TestsLater.{and_false}

@@ -7,7 +7,7 @@ use Rattle.std.proofs.lemmas.Bool.{and_parts, true≢false, false≢true}
 use Rattle.std.proofs.lemmas.Bool.Decides.{nat_tests, Decides-eqb}
 use Rattle.std.proofs.lemmas.Option.{none-some, same_Some}
 use Rattle.std.proofs.Math.Dec.{eqb-suc-suc, eqb-suc-zero, eqb-zero-suc}
-use Rattle.wx_walks.proofs.EndsLater.{place_more}
+use Rattle.wx_laws.proofs.ChannelsLater.{place_more}
 
 pub or_false : (a : Bool) → (a || false) ≡ a
 or_false true = refl

@@ -13,7 +13,7 @@ use Rattle.wx_roster.specs.declared.roster.Member.{Member}
 use Rattle.wx_tables.specs.State.{TablesState}
 use Rattle.wx_tables.specs.Ending.{EachQueue}
 use Rattle.wx_native_hosts.specs.Hosts.{HostState}
-use Rattle.wx_walks.proofs.Past.{reverse-push}
+use Rattle.wx_laws.proofs.Newest.{reverse-push}
 use Rattle.wx_broker.specs.Tables.{IsKept}
 use Rattle.wx_broker.proofs.TestsLater.{rows_length}
 use Rattle.wx_broker.specs.Told.{IsTold, HasContexts, HasPending, HasHosts}

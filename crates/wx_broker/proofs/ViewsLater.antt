@@ -19,7 +19,7 @@ use Rattle.wx_machine.specs.Words.{starts, hosts, FollowsMachine, answer_after, 
 use Rattle.wx_machine.specs.declared.entries.Who.TheVariants.{Context as ByContext}
 use Rattle.wx_machine.specs.declared.entries.Call.TheVariants.{ConnectNative, SendNative}
 use Rattle.wx_machine.specs.declared.entries.Answer.TheVariants.{Channel as OnChannel, Request as OnRequest, Gone}
-use Rattle.wx_walks.proofs.EndsLater.{place_more}
+use Rattle.wx_laws.proofs.ChannelsLater.{place_more}
 use Rattle.wx_broker.proofs.TestsLater.{outside}
 use Rattle.wx_broker.specs.Views.{view_at, view_for, view_of, host_view}
 

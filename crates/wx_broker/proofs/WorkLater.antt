@@ -13,9 +13,9 @@ use Rattle.wx_machine.specs.declared.work.Work.TheVariants.{Channel as ForChanne
 use Rattle.wx_machine.specs.declared.entries.Who.TheVariants.{Context as ByContext}
 use Rattle.wx_machine.specs.declared.entries.Call.TheVariants.{ConnectNative, SendNative}
 use Rattle.wx_machine.specs.declared.entries.Answer.TheVariants.{Channel as OnChannel, Request as OnRequest}
-use Rattle.wx_walks.proofs.EndsLater.{channels_more}
-use Rattle.wx_walks.proofs.RequestsLater.{requests_more}
-use Rattle.wx_walks.proofs.TextsLater.{work_more}
+use Rattle.wx_laws.proofs.ChannelsLater.{channels_more}
+use Rattle.wx_laws.proofs.RequestsLater.{requests_more}
+use Rattle.wx_laws.proofs.HostsLater.{work_more}
 use Rattle.wx_broker.specs.Tables.{IsWithin}
 use Rattle.wx_broker.proofs.TestsLater.{same_is, grown_or_same}
 

@@ -1,3 +1,7 @@
+pub mod Newest
+pub mod ChannelsLater
+pub mod RequestsLater
+pub mod HostsLater
 pub mod Pasts
 pub mod Refusals
 pub mod Numbers

@@ -5,7 +5,7 @@ use Rattle.std.specs.Option.{option_or, option_map}
 use Rattle.wx_id.specs.declared.numbers.EntryNo.{EntryNo}
 use Rattle.wx_machine.specs.declared.entries.Entry.{Entry}
 use Rattle.wx_machine.specs.Words.{opens, channels, channel, asks, requests, request, ends_request, settled_at}
-use Rattle.wx_walks.proofs.EndsLater.{place_more}
+use Rattle.wx_laws.proofs.ChannelsLater.{place_more}
 use Rattle.wx_reports.specs.declared.requests.Settled.{Settled}
 use Rattle.wx_id.specs.Numbers.{entry_no}
 use Rattle.wx_reports.specs.Reports.{opened_at, asked_at, settlement, way}

@@ -47,7 +47,7 @@ pub fn found_at(found: Option<EntryNo>, is_here: bool, place: usize) -> Option<E
 }
 
 /// The entry that opened channel k.
-#[tactic(auto, using(wx_walks::proofs::Past::past_at_read, wx_walks::proofs::Past::length_past, wx_walks::proofs::EndsLater::channels_more))]
+#[tactic(auto, using(wx_laws::proofs::Newest::past_at_read, wx_laws::proofs::Newest::length_past, wx_laws::proofs::ChannelsLater::channels_more))]
 fn opened_at(entries: &[Entry], k: ChannelNo) -> Option<EntryNo>
     ensures { result ≡ opened_at (reverse entries.now) k.0 }
 {
@@ -85,7 +85,7 @@ fn is_posting(before: &[Entry], e: &Entry, k: ChannelNo) -> bool
 }
 
 /// How many messages were posted on channel k, or said by its host and passed on.
-#[tactic(auto, using(wx_walks::proofs::Past::past_at_read))]
+#[tactic(auto, using(wx_laws::proofs::Newest::past_at_read))]
 fn posted(entries: &[Entry], k: ChannelNo) -> u64
     ensures { result ≡ posted (reverse entries.now) k.0 }
 {
@@ -113,7 +113,7 @@ fn is_taking(before: &[Entry], e: &Entry, k: ChannelNo) -> bool
 }
 
 /// How many messages of channel k were taken, by contexts and by its host.
-#[tactic(auto, using(wx_walks::proofs::Past::past_at_read))]
+#[tactic(auto, using(wx_laws::proofs::Newest::past_at_read))]
 fn taken(entries: &[Entry], k: ChannelNo) -> u64
     ensures { result ≡ taken (reverse entries.now) k.0 }
 {

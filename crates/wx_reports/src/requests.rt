@@ -36,7 +36,7 @@ pub struct RequestReport {
 }
 
 /// The entry that made request r.
-#[tactic(auto, using(wx_walks::proofs::Past::past_at_read, wx_walks::proofs::Past::length_past, wx_walks::proofs::RequestsLater::requests_more))]
+#[tactic(auto, using(wx_laws::proofs::Newest::past_at_read, wx_laws::proofs::Newest::length_past, wx_laws::proofs::RequestsLater::requests_more))]
 fn asked_at(entries: &[Entry], r: RequestNo) -> Option<EntryNo>
     ensures { result ≡ asked_at (reverse entries.now) r.0 }
 {
@@ -93,7 +93,7 @@ fn settlement_after(
 }
 
 /// The entry that settled request r, and how.
-#[tactic(auto, using(wx_walks::proofs::Past::past_at_read, wx_walks::proofs::Past::length_past))]
+#[tactic(auto, using(wx_laws::proofs::Newest::past_at_read, wx_laws::proofs::Newest::length_past))]
 fn settlement(entries: &[Entry], r: RequestNo) -> Option<(EntryNo, Settled)>
     ensures { result ≡ settlement (reverse entries.now) r.0 }
 {

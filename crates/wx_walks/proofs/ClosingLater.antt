@@ -6,7 +6,7 @@ use Rattle.std.proofs.lemmas.List.Elements.{filter-append}
 use Rattle.wx_id.specs.declared.numbers.ContextNo.{ContextNo}
 use Rattle.wx_machine.specs.declared.entries.Entry.{Entry}
 use Rattle.wx_machine.specs.Words.{numbers, numbers_of, enters, opens, channels, channel, has_live}
-use Rattle.wx_walks.proofs.EndsLater.{channel_more}
+use Rattle.wx_laws.proofs.ChannelsLater.{channel_more}
 
 pub any_append : {X : Type 0} (q : X → Bool) (xs ys : List X) → list_any q (xs ++ ys) ≡ (list_any q xs || list_any q ys)
 any_append q [] ys = refl

@@ -1,4 +1,4 @@
--- Hosts and their texts, one entry later.
+-- The texts of hosts, one entry later.
 use Rattle.std.proofs.Common.{◌≡◌, ◌+◌, List, [], ◌∷◌, length, Bool, cond}
 use Rattle.std.specs.Prelude.{◌||◌, ◌&&◌, is_some, filter, ◌==◌}
 use Rattle.std.specs.Option.{option_or}
@@ -7,17 +7,8 @@ use Rattle.wx_id.specs.declared.numbers.HostNo.{HostNo}
 use Rattle.wx_id.specs.declared.numbers.EntryNo.{EntryNo}
 use Rattle.wx_machine.specs.declared.entries.Entry.{Entry}
 use Rattle.wx_machine.specs.Words.{first, starts, hosts, work_in, work_of, is_by_host, is_text_for, texts_for, text_taken, texts_taken, has_taken}
-use Rattle.wx_walks.proofs.EndsLater.{length_options, place_more}
 use Rattle.wx_walks.proofs.ClosingLater.{any_append}
 use Rattle.wx_walks.proofs.EventsLater.{first_filter}
-
--- how many hosts there are after one more entry
-pub hosts_more : (e : Entry) (past : List Entry) → length (hosts (e ∷ past)) ≡ cond (is_some (starts past e)) (length (hosts past) + 1) (length (hosts past))
-hosts_more e past = length_options (hosts past) (starts past e)
-
--- what host h works for after one more entry
-pub work_more : (e : Entry) (past : List Entry) (h : HostNo) → work_of (e ∷ past) h ≡ cond ((length (hosts past) == h.0) && is_some (starts past e)) (work_in (starts past e)) (work_of past h)
-work_more e past h = place_more work_in (hosts past) (starts past e) h.0
 
 -- whether host h took the text in entry n after one more entry
 pub taken_more : (e : Entry) (past : List Entry) (h : HostNo) (n : EntryNo) → has_taken (e ∷ past) h n ≡ (has_taken past h n || list_any (λ t. t.0 == n.0) (text_taken e.call e.answer (is_by_host e.who h)))

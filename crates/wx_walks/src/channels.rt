@@ -18,7 +18,7 @@ pub fn opens(before: &[Entry], e: &Entry) -> bool
 }
 
 /// How many channels were opened.
-#[tactic(auto, using(crate::proofs::Past::past_at_read, crate::proofs::EndsLater::channels_more))]
+#[tactic(auto, using(wx_laws::proofs::Newest::past_at_read, wx_laws::proofs::ChannelsLater::channels_more))]
 pub fn count(entries: &[Entry]) -> u64
     ensures { result ≡ length (channels (reverse entries.now)) }
 {
@@ -32,7 +32,7 @@ pub fn count(entries: &[Entry]) -> u64
 }
 
 /// What a context is to the channel that the entry opens.
-#[tactic(auto, using(crate::proofs::EndsLater::is_among_receivers))]
+#[tactic(auto, using(wx_laws::proofs::ChannelsLater::is_among_receivers))]
 pub fn end_at_opening(before: &[Entry], e: &Entry, c: ContextNo) -> End
     ensures { result ≡ end_in (opens (reverse before.now) e.now) c }
 {
@@ -66,7 +66,7 @@ fn end_after(before: &[Entry], e: &Entry, next: u64, k: ChannelNo, c: ContextNo,
 }
 
 /// What a context is to channel k.
-#[tactic(auto, using(crate::proofs::Past::past_at_read, crate::proofs::EndsLater::channels_more, crate::proofs::EndsLater::end_more))]
+#[tactic(auto, using(wx_laws::proofs::Newest::past_at_read, wx_laws::proofs::ChannelsLater::channels_more, wx_laws::proofs::ChannelsLater::end_more))]
 pub fn end_of(entries: &[Entry], k: ChannelNo, c: ContextNo) -> End
     ensures { result ≡ end_in (channel (reverse entries.now) k.0) c }
 {

@@ -14,7 +14,7 @@ use wx_id::{ChannelNo, ContextNo, End};
 use wx_machine::{Answer, Call, Entry, Sort, Who};
 
 /// Context c lives after the entry.
-#[tactic(auto, using(crate::proofs::Past::came_more))]
+#[tactic(auto, using(wx_laws::proofs::Newest::came_more))]
 pub fn is_live_after(before: &[Entry], e: &Entry, c: ContextNo) -> bool
     ensures { result ≡ is_live (e.now ∷ reverse before.now) c }
 {
@@ -44,7 +44,7 @@ fn receives_and_lives(
 }
 
 /// Some receiver lives after the entry e.
-#[tactic(auto, using(crate::proofs::Past::past_at_read, crate::proofs::ClosingLater::some_more))]
+#[tactic(auto, using(wx_laws::proofs::Newest::past_at_read, crate::proofs::ClosingLater::some_more))]
 fn some_receiver_lives(
     at: &[Entry],
     opener: ContextNo,
@@ -95,7 +95,7 @@ fn has_live_after(
 }
 
 /// Some receiver of channel k lives after the entry e.
-#[tactic(auto, using(crate::proofs::Past::past_at_read, crate::proofs::EndsLater::channels_more, crate::proofs::ClosingLater::has_live_more))]
+#[tactic(auto, using(wx_laws::proofs::Newest::past_at_read, wx_laws::proofs::ChannelsLater::channels_more, crate::proofs::ClosingLater::has_live_more))]
 pub fn has_live_receiver(before: &[Entry], e: &Entry, k: ChannelNo) -> bool
     ensures { result ≡ has_live (e.now ∷ reverse before.now) (channel (reverse before.now) k.0) }
 {
@@ -145,7 +145,7 @@ fn closed_after(before: &[Entry], e: &Entry, k: ChannelNo, was: Option<u64>) -> 
 }
 
 /// The number of the entry that closed channel k.
-#[tactic(auto, using(crate::proofs::Past::past_at_read, crate::proofs::Past::length_past))]
+#[tactic(auto, using(wx_laws::proofs::Newest::past_at_read, wx_laws::proofs::Newest::length_past))]
 pub fn closed_at(entries: &[Entry], k: ChannelNo) -> Option<u64>
     ensures { result ≡ closed_at (reverse entries.now) k.0 }
 {

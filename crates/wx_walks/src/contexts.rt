@@ -33,7 +33,7 @@ pub fn is_by(who: Who, c: ContextNo) -> bool
 }
 
 /// How many contexts were brought in.
-#[tactic(auto, using(crate::proofs::Past::past_at_read))]
+#[tactic(auto, using(wx_laws::proofs::Newest::past_at_read))]
 pub fn count(entries: &[Entry]) -> u64
     ensures { result ≡ contexts (reverse entries.now) }
 {
@@ -47,7 +47,7 @@ pub fn count(entries: &[Entry]) -> u64
 }
 
 /// Context c came in.
-#[tactic(auto, using(crate::proofs::Past::past_at_read, crate::proofs::Past::came_more))]
+#[tactic(auto, using(wx_laws::proofs::Newest::past_at_read, wx_laws::proofs::Newest::came_more))]
 pub fn came(entries: &[Entry], c: ContextNo) -> bool
     ensures { result ≡ is_there (context_of (reverse entries.now) c) }
 {
@@ -71,7 +71,7 @@ pub fn leaves(e: &Entry, c: ContextNo) -> bool
 }
 
 /// Context c left after it came in.
-#[tactic(auto, using(crate::proofs::Past::past_at_read, crate::proofs::Past::came_more))]
+#[tactic(auto, using(wx_laws::proofs::Newest::past_at_read, wx_laws::proofs::Newest::came_more))]
 pub fn has_left(entries: &[Entry], c: ContextNo) -> bool
     ensures { result ≡ has_left (reverse entries.now) c }
 {
@@ -96,7 +96,7 @@ pub fn is_live(entries: &[Entry], c: ContextNo) -> bool
 }
 
 /// What context c listens to.
-#[tactic(auto, using(crate::proofs::Past::past_at_read))]
+#[tactic(auto, using(wx_laws::proofs::Newest::past_at_read))]
 pub fn listens_of(entries: &[Entry], c: ContextNo) -> Listens
     ensures { result ≡ listens_of (reverse entries.now) c }
 {
@@ -135,7 +135,7 @@ fn brought(e: &Entry, c: ContextNo) -> Option<&Context>
 }
 
 /// Context c, as it was brought in.
-#[tactic(auto, using(crate::proofs::Past::past_at_read))]
+#[tactic(auto, using(wx_laws::proofs::Newest::past_at_read))]
 pub fn context_of(entries: &[Entry], c: ContextNo) -> Option<&Context>
     ensures { option_copied result ≡ context_of (reverse entries.now) c }
 {
@@ -294,7 +294,7 @@ fn brings_receiver(at: &[Entry], c: ContextNo, target: &Target, sort: Sort, f: &
 }
 
 /// The target has a receiver of that sort.
-#[tactic(auto, using(crate::proofs::Past::past_at_read, crate::proofs::ClosingLater::some_more))]
+#[tactic(auto, using(wx_laws::proofs::Newest::past_at_read, crate::proofs::ClosingLater::some_more))]
 pub fn has_receiver(at: &[Entry], c: ContextNo, target: &Target, sort: Sort) -> bool
     ensures { result ≡ list_any (λ _. true) (receivers_of (reverse at.now) c target.now sort) }
 {

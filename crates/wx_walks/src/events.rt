@@ -61,7 +61,7 @@ fn takes(e: &Entry, c: ContextNo, event: Event) -> bool
 }
 
 /// Context c took the event.
-#[tactic(auto, using(crate::proofs::Past::past_at_read, crate::proofs::EventsLater::taken_more))]
+#[tactic(auto, using(wx_laws::proofs::Newest::past_at_read, crate::proofs::EventsLater::taken_more))]
 pub fn was_taken(entries: &[Entry], c: ContextNo, event: Event) -> bool
     ensures { result ≡ list_any (λ t. same_event t event) (taken (reverse entries.now) c) }
 {
@@ -83,7 +83,7 @@ fn drops(e: &Entry, kind: EventKind) -> bool
 }
 
 /// Context c disconnected the event's channel after it.
-#[tactic(auto, using(crate::proofs::Past::past_at_read, crate::proofs::Past::length_past))]
+#[tactic(auto, using(wx_laws::proofs::Newest::past_at_read, wx_laws::proofs::Newest::length_past))]
 pub fn is_dropped(entries: &[Entry], c: ContextNo, event: Event) -> bool
     ensures { result ≡ is_dropped (reverse entries.now) c event }
 {
@@ -467,7 +467,7 @@ fn waiting_of_requests(
 }
 
 /// The first event that the entry i delivers to context c and that waits.
-#[tactic(auto, using(crate::proofs::EventsLater::first_events, crate::proofs::Past::length_past))]
+#[tactic(auto, using(crate::proofs::EventsLater::first_events, wx_laws::proofs::Newest::length_past))]
 fn waiting_of(
     entries: &[Entry],
     i: usize,
@@ -503,7 +503,7 @@ fn found_after(
 }
 
 /// The first event that is pending for context c.
-#[tactic(auto, using(crate::proofs::Past::past_at_read, crate::proofs::EventsLater::queued_more))]
+#[tactic(auto, using(wx_laws::proofs::Newest::past_at_read, crate::proofs::EventsLater::queued_more))]
 pub fn first_pending(entries: &[Entry], c: ContextNo) -> Option<Event>
     ensures { result ≡ first (pending (reverse entries.now) c) }
 {

@@ -18,7 +18,7 @@ pub fn starts(before: &[Entry], e: &Entry) -> bool
 }
 
 /// How many hosts were started.
-#[tactic(auto, using(crate::proofs::Past::past_at_read, crate::proofs::TextsLater::hosts_more))]
+#[tactic(auto, using(wx_laws::proofs::Newest::past_at_read, wx_laws::proofs::HostsLater::hosts_more))]
 pub fn count(entries: &[Entry]) -> u64
     ensures { result ≡ length (hosts (reverse entries.now)) }
 {
@@ -59,7 +59,7 @@ fn work_after(before: &[Entry], e: &Entry, next: u64, h: HostNo, was: Option<Wor
 }
 
 /// What host h works for.
-#[tactic(auto, using(crate::proofs::Past::past_at_read, crate::proofs::TextsLater::hosts_more, crate::proofs::TextsLater::work_more))]
+#[tactic(auto, using(wx_laws::proofs::Newest::past_at_read, wx_laws::proofs::HostsLater::hosts_more, wx_laws::proofs::HostsLater::work_more))]
 pub fn work_of(entries: &[Entry], h: HostNo) -> Option<Work>
     ensures { result ≡ work_of (reverse entries.now) h }
 {

@@ -26,7 +26,7 @@ pub fn asks(before: &[Entry], e: &Entry) -> bool
 }
 
 /// How many requests were made.
-#[tactic(auto, using(crate::proofs::Past::past_at_read, crate::proofs::RequestsLater::requests_more))]
+#[tactic(auto, using(wx_laws::proofs::Newest::past_at_read, wx_laws::proofs::RequestsLater::requests_more))]
 pub fn count(entries: &[Entry]) -> u64
     ensures { result ≡ length (requests (reverse entries.now)) }
 {
@@ -51,7 +51,7 @@ fn is_asker_at(before: &[Entry], e: &Entry, c: ContextNo) -> bool
 }
 
 /// Whether the entry sends a request to context c.
-#[tactic(auto, using(crate::proofs::EndsLater::is_among_receivers))]
+#[tactic(auto, using(wx_laws::proofs::ChannelsLater::is_among_receivers))]
 pub fn is_asked_at(before: &[Entry], e: &Entry, c: ContextNo) -> bool
     ensures { result ≡ is_asked (asks (reverse before.now) e.now) c }
 {
@@ -83,7 +83,7 @@ fn is_asker_after(
 }
 
 /// Whether context c made request r.
-#[tactic(auto, using(crate::proofs::Past::past_at_read, crate::proofs::RequestsLater::requests_more, crate::proofs::RequestsLater::asker_more))]
+#[tactic(auto, using(wx_laws::proofs::Newest::past_at_read, wx_laws::proofs::RequestsLater::requests_more, wx_laws::proofs::RequestsLater::asker_more))]
 pub fn is_asker(entries: &[Entry], r: RequestNo, c: ContextNo) -> bool
     ensures { result ≡ is_asker (request (reverse entries.now) r.0) c }
 {
@@ -119,7 +119,7 @@ fn is_asked_after(
 }
 
 /// Whether request r was sent to context c.
-#[tactic(auto, using(crate::proofs::Past::past_at_read, crate::proofs::RequestsLater::requests_more, crate::proofs::RequestsLater::asked_more))]
+#[tactic(auto, using(wx_laws::proofs::Newest::past_at_read, wx_laws::proofs::RequestsLater::requests_more, wx_laws::proofs::RequestsLater::asked_more))]
 pub fn is_asked(entries: &[Entry], r: RequestNo, c: ContextNo) -> bool
     ensures { result ≡ is_asked (request (reverse entries.now) r.0) c }
 {
@@ -148,7 +148,7 @@ fn declines(before: &[Entry], e: &Entry, r: RequestNo, c: ContextNo) -> bool
 }
 
 /// Whether context c, as a live receiver of request r, declined it.
-#[tactic(auto, using(crate::proofs::Past::past_at_read))]
+#[tactic(auto, using(wx_laws::proofs::Newest::past_at_read))]
 pub fn has_declined(entries: &[Entry], r: RequestNo, c: ContextNo) -> bool
     ensures { result ≡ has_declined (reverse entries.now) r.0 c }
 {
@@ -188,7 +188,7 @@ fn receives_and_is_open(
 }
 
 /// Some receiver may still reply to request r after the entry e.
-#[tactic(auto, using(crate::proofs::Past::past_at_read, crate::proofs::ClosingLater::some_more))]
+#[tactic(auto, using(wx_laws::proofs::Newest::past_at_read, crate::proofs::ClosingLater::some_more))]
 fn some_receiver_is_open(
     at: &[Entry],
     asker: ContextNo,
@@ -240,7 +240,7 @@ fn has_open_after(
 }
 
 /// Some receiver of request r may still reply to it after the entry e.
-#[tactic(auto, using(crate::proofs::Past::past_at_read, crate::proofs::RequestsLater::requests_more, crate::proofs::RequestsLater::has_open_more))]
+#[tactic(auto, using(wx_laws::proofs::Newest::past_at_read, wx_laws::proofs::RequestsLater::requests_more, wx_laws::proofs::RequestsLater::has_open_more))]
 pub fn has_open_receiver(before: &[Entry], e: &Entry, r: RequestNo) -> bool
     ensures { result ≡ has_open (e.now ∷ reverse before.now) r.0 (request (reverse before.now) r.0) }
 {
@@ -300,7 +300,7 @@ fn settled_after(before: &[Entry], e: &Entry, r: RequestNo, was: Option<u64>) ->
 }
 
 /// The number of the entry that settled request r.
-#[tactic(auto, using(crate::proofs::Past::past_at_read, crate::proofs::Past::length_past))]
+#[tactic(auto, using(wx_laws::proofs::Newest::past_at_read, wx_laws::proofs::Newest::length_past))]
 pub fn settled_at(entries: &[Entry], r: RequestNo) -> Option<u64>
     ensures { result ≡ settled_at (reverse entries.now) r.0 }
 {

@@ -21,7 +21,7 @@ fn is_host_end(e: &Entry) -> bool
 }
 
 /// Host h ended.
-#[tactic(auto, using(crate::proofs::Past::past_at_read))]
+#[tactic(auto, using(wx_laws::proofs::Newest::past_at_read))]
 pub fn has_ended(entries: &[Entry], h: HostNo) -> bool
     ensures { result ≡ has_ended (reverse entries.now) h }
 {
@@ -56,7 +56,7 @@ fn takes(e: &Entry, h: HostNo, n: EntryNo) -> bool
 }
 
 /// Host h took the text in entry n.
-#[tactic(auto, using(crate::proofs::Past::past_at_read, crate::proofs::TextsLater::taken_more))]
+#[tactic(auto, using(wx_laws::proofs::Newest::past_at_read, crate::proofs::TextsLater::taken_more))]
 fn has_taken(entries: &[Entry], h: HostNo, n: EntryNo) -> bool
     ensures { result ≡ has_taken (reverse entries.now) h n }
 {
@@ -91,7 +91,7 @@ fn left_after(
 }
 
 /// The first entry with a text for host h that it did not take.
-#[tactic(auto, using(crate::proofs::Past::past_at_read, crate::proofs::Past::length_past, crate::proofs::TextsLater::left_more))]
+#[tactic(auto, using(wx_laws::proofs::Newest::past_at_read, wx_laws::proofs::Newest::length_past, crate::proofs::TextsLater::left_more))]
 fn first_left(entries: &[Entry], h: HostNo) -> Option<EntryNo>
     ensures { result ≡ first (texts_left (reverse entries.now) h) }
 {
@@ -132,7 +132,7 @@ fn was_told_end(e: &Entry) -> bool
 }
 
 /// Host h was told that no text comes any more.
-#[tactic(auto, using(crate::proofs::Past::past_at_read))]
+#[tactic(auto, using(wx_laws::proofs::Newest::past_at_read))]
 pub fn knows_end(entries: &[Entry], h: HostNo) -> bool
     ensures { result ≡ knows_end (reverse entries.now) h }
 {
@@ -154,7 +154,7 @@ fn was_said_closed(e: &Entry) -> bool
 }
 
 /// A message of host h was answered that its channel is closed.
-#[tactic(auto, using(crate::proofs::Past::past_at_read))]
+#[tactic(auto, using(wx_laws::proofs::Newest::past_at_read))]
 pub fn said_closed(entries: &[Entry], h: HostNo) -> bool
     ensures { result ≡ said_closed (reverse entries.now) h }
 {

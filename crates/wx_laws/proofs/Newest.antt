@@ -28,7 +28,3 @@ came_more e past c = there_or (context_of past c) (if_numbered c (enters e))
 -- how long a past is
 pub length_past : {X : Type 0} (xs : List X) → length (reverse xs) ≡ length xs
 length_past xs = length-reverse xs
-
--- how many contexts there are after one more entry of a journal
-pub contexts_after : (journal : List Entry) (e : Entry) → contexts (reverse (journal ++ e ∷ [])) ≡ cond (is_enter e.call) 1 0 + contexts (reverse journal)
-contexts_after journal e = ap contexts (reverse-push journal e)

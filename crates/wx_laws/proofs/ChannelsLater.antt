@@ -14,7 +14,7 @@ use Rattle.wx_machine.specs.declared.sorts.Sort.{Sort}
 use Rattle.wx_machine.specs.declared.entries.Entry.{Entry}
 use Rattle.wx_machine.specs.Words.{is_there, if_numbered, enters, context_of, numbers, numbers_of, has_left, reaches_from}
 use Rattle.wx_machine.specs.Words.{listens_of, is_receiver, receivers_of, Ends, opens, channels, channel, end_in}
-use Rattle.wx_walks.proofs.Past.{came_more}
+use Rattle.wx_laws.proofs.Newest.{came_more}
 
 pub length_options : {X : Type 0} (xs : List X) (o : Option X) → length (xs ++ option_to_list o) ≡ cond (is_some o) (length xs + 1) (length xs)
 length_options [] None = refl

@@ -4,7 +4,7 @@ use Rattle.std.specs.Prelude.{◌&&◌, is_some, ◌==◌}
 use Rattle.wx_id.specs.declared.numbers.ContextNo.{ContextNo}
 use Rattle.wx_machine.specs.declared.entries.Entry.{Entry}
 use Rattle.wx_machine.specs.Words.{asks, requests, request, is_asker, is_asked, has_open}
-use Rattle.wx_walks.proofs.EndsLater.{length_options, place_more}
+use Rattle.wx_laws.proofs.ChannelsLater.{length_options, place_more}
 
 -- how many requests there are after one more entry
 pub requests_more : (e : Entry) (past : List Entry) → length (requests (e ∷ past)) ≡ cond (is_some (asks past e)) (length (requests past) + 1) (length (requests past))
