@@ -47,7 +47,8 @@ impl Model for Broker {
           broker.journal.spare;
     } };
 
-    ghost invariant = { λ broker. IsTold broker.world broker.journal.entries broker.roster broker.tables broker.hosts.hosts };
+    ghost invariant = { λ broker.
+        IsTold broker.world broker.journal.entries broker.roster broker.tables broker.hosts.hosts };
 }
 
 /// A queue for context c, where there is none: one may be left of a context for whom the roster had no memory.

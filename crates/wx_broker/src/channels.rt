@@ -1,5 +1,6 @@
 //! The calls of the broker on channels.
-ghost use Rattle.std.specs.Prelude.{◌≡◌, ◌+◌, ◌<◌, ◌≤◌, cond, false, length, true, IsOk, IsTrue, reverse, OnErr, IfOk, IfErr};
+ghost use Rattle.std.specs.Prelude.{◌≡◌, ◌+◌, ◌<◌, ◌≤◌, cond, false, length, true, IsOk, IsTrue, reverse};
+ghost use Rattle.std.specs.Prelude.{OnErr, IfOk, IfErr};
 ghost use Rattle.wx_id.specs.declared.numbers.HostNo.{HostNo};
 ghost use Rattle.wx_machine.specs.Contexts.{context_of, contexts, is_live, receivers_of};
 ghost use Rattle.wx_machine.specs.Channels.{channels};

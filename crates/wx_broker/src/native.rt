@@ -1,5 +1,6 @@
 //! The calls of the broker that start native hosts.
-ghost use Rattle.std.specs.Prelude.{◌≡◌, ◌+◌, ◌<◌, ◌≤◌, is_some, IsTrue, option_to_list, reverse, OnErr, IfOk, IfErr, Some};
+ghost use Rattle.std.specs.Prelude.{◌≡◌, ◌+◌, ◌<◌, ◌≤◌, is_some, IsTrue, option_to_list, reverse, Some};
+ghost use Rattle.std.specs.Prelude.{OnErr, IfOk, IfErr};
 ghost use Rattle.wx_machine.specs.Contexts.{context_of, contexts};
 ghost use Rattle.wx_machine.specs.Answers.{answer_of};
 ghost use Rattle.wx_native_hosts.specs.Hosts.{started};

@@ -1,8 +1,8 @@
 -- Channels and their ends, one entry later.
-use Rattle.std.proofs.Common.{◌≡◌, ℕ, suc, zero, ◌+◌, List, [], ◌∷◌, ◌++◌, length, refl, ap, sym, ◌∙◌, Bool, true, false, cond, not, arith, subst}
+use Rattle.std.proofs.Common.{◌≡◌, ℕ, suc, ◌+◌, List, [], ◌∷◌, ◌++◌, length, refl, ap, sym, ◌∙◌, Bool, true, false, cond, not, arith, subst}
 use Rattle.std.specs.Prelude.{Option, Some, None, ◌||◌, ◌&&◌, is_some, option_to_list, slice_get, filter, ◌==◌}
 use Rattle.std.specs.Option.{option_or}
-use Rattle.std.proofs.lemmas.Bool.Decides.{nat_tests, Decides-eqb}
+use Rattle.std.proofs.lemmas.Bool.Decides.{Decides-eqb}
 use Rattle.std.proofs.lemmas.Option.{slice_get_past}
 use Rattle.wx_id.proofs.ContextLemmas.{same_context_is}
 use Rattle.wx_machine.proofs.Lists.{get_options}

@@ -1,8 +1,7 @@
 -- The laws of messaging, by the places of a journal.
 use Rattle.std.proofs.Common.{◌≡◌, ℕ, suc, zero, ◌<◌, List, [], ◌∷◌, ◌++◌, length, take, refl, ap, sym, ◌∙◌, Bool, true, false, cond, not, arith, subst, append_assoc}
-use Rattle.std.specs.Prelude.{Option, Some, None, is_some, ◌&&◌, filter, ◌==◌, reverse}
+use Rattle.std.specs.Prelude.{Option, Some, None, is_some, ◌&&◌, filter, reverse}
 use Rattle.std.specs.Option.{option_or}
-use Rattle.std.proofs.lemmas.Bool.Decides.{nat_tests}
 use Rattle.std.proofs.lemmas.List.{reverse-append, length-reverse, length-append}
 use Rattle.wx_laws.proofs.Numbers.{eqb_refl, eqb_below, eqb_above}
 use Rattle.wx_id.specs.declared.numbers.ContextNo.{ContextNo}

@@ -1,11 +1,9 @@
 -- A journal asked from its newest entry.
 use Rattle.std.proofs.Common.{◌≡◌, ℕ, ◌+◌, ◌<◌, List, [], ◌∷◌, ◌++◌, length, get_or, take, refl, ap, ◌∙◌}
-use Rattle.std.specs.Prelude.{reverse, Option, Some, None, ◌||◌, cond}
-use Rattle.std.specs.Option.{option_or}
+use Rattle.std.specs.Prelude.{reverse, ◌||◌}
 use Rattle.wx_id.specs.declared.numbers.ContextNo.{ContextNo}
-use Rattle.wx_context.specs.declared.contexts.Context.{Context}
 use Rattle.wx_machine.specs.declared.entries.Entry.{Entry}
-use Rattle.wx_machine.specs.Words.{is_there, if_numbered, enters, context_of, contexts, is_enter}
+use Rattle.wx_machine.specs.Words.{is_there, if_numbered, enters, context_of}
 use Rattle.std.proofs.lemmas.List.{take_more, reverse-append, length-reverse}
 use Rattle.wx_machine.proofs.Lists.{there_or}
 

@@ -4,7 +4,7 @@ ghost use Rattle.std.specs.Option.{option_or};
 ghost use Rattle.std.specs.List.{list_any};
 ghost use Rattle.wx_machine.specs.Contexts.{is_live, is_receiver, receivers_of, numbers_of, enters};
 ghost use Rattle.wx_machine.specs.Channels.{opens, channel};
-ghost use Rattle.wx_machine.specs.Closing.{has_live, ends_channel, closes, closed_at, is_closed};
+ghost use Rattle.wx_machine.specs.Closing.{has_live, ends_channel, closed_at};
 
 use crate::channels::{end_of, opens};
 use crate::contexts::{brings, came, has_left, is_live, is_receiver, leaves};
@@ -154,18 +154,4 @@ pub fn closed_at(entries: &[Entry], k: ChannelNo) -> Option<u64>
         closed = closed_after(&entries[..i], e, k, closed);
     }
     closed
-}
-
-/// Whether channel k is closed.
-pub fn is_closed(entries: &[Entry], k: ChannelNo) -> bool
-    ensures { result ≡ is_closed (reverse entries.now) k.0 }
-{
-    closed_at(entries, k).is_some()
-}
-
-/// The entry e closes channel k.
-pub fn closes(before: &[Entry], e: &Entry, k: ChannelNo) -> bool
-    ensures { result ≡ closes (reverse before.now) e.now k.0 }
-{
-    ends_channel(before, e, k) && !is_closed(before, k)
 }

@@ -1,11 +1,10 @@
 //! The contexts of a journal: who lives, what they listen to, and whom a target reaches.
-ghost use Rattle.std.specs.Prelude.{◌≡◌, ◌&&◌, bytes_eq, filter, true, reverse, option_copied};
+ghost use Rattle.std.specs.Prelude.{◌≡◌, ◌&&◌, reverse, option_copied};
 ghost use Rattle.std.specs.Option.{option_or};
-ghost use Rattle.std.specs.List.{list_any};
 ghost use Rattle.wx_machine.specs.Contexts.{is_by, is_there, if_numbered, enters, context_of, has_left, is_live};
-ghost use Rattle.wx_machine.specs.Contexts.{is_leave, contexts, listens_of, listens_after, extension_of};
+ghost use Rattle.wx_machine.specs.Contexts.{is_leave, listens_of, listens_after, extension_of};
 ghost use Rattle.wx_machine.specs.Contexts.{is_extension, is_page_of, is_frame, is_script_in, names, is_external};
-ghost use Rattle.wx_machine.specs.Contexts.{hears, reaches, reaches_from, is_receiver, receivers_of, numbers_of};
+ghost use Rattle.wx_machine.specs.Contexts.{hears, reaches, reaches_from, is_receiver};
 
 use wx_context::{Context, Listens, Target};
 use wx_external::meant;
@@ -30,20 +29,6 @@ pub fn is_by(who: Who, c: ContextNo) -> bool
         Who::Context(d) => d == c,
         Who::Host(_) => false,
     }
-}
-
-/// How many contexts were brought in.
-#[tactic(auto, using(wx_laws::proofs::Newest::past_at_read))]
-pub fn count(entries: &[Entry]) -> u64
-    ensures { result ≡ contexts (reverse entries.now) }
-{
-    let mut count: u64 = 0;
-    for e in entries {
-        if let Call::Enter(_) = &e.call {
-            count += 1;
-        }
-    }
-    count
 }
 
 /// Context c came in.
@@ -278,29 +263,4 @@ pub fn is_receiver(
             context_of(entries, d),
             listens_of(entries, d),
         )
-}
-
-/// Whether the entry f brings in a context that is a receiver.
-fn brings_receiver(at: &[Entry], c: ContextNo, target: &Target, sort: Sort, f: &Entry) -> bool
-    ensures { result ≡ list_any (λ _. true)
-        (filter (is_receiver (reverse at.now) c target.now sort) (numbers_of (enters f.now))) }
-{
-    match (&f.who, &f.call, &f.answer) {
-        (Who::Context(_), Call::Enter(_), Answer::Entered(n)) => is_receiver(
-            at, c, target, sort, *n,
-        ),
-        _ => false,
-    }
-}
-
-/// The target has a receiver of that sort.
-#[tactic(auto, using(wx_laws::proofs::Newest::past_at_read, crate::proofs::ClosingLater::some_more))]
-pub fn has_receiver(at: &[Entry], c: ContextNo, target: &Target, sort: Sort) -> bool
-    ensures { result ≡ list_any (λ _. true) (receivers_of (reverse at.now) c target.now sort) }
-{
-    let mut any = false;
-    for f in at {
-        any = any || brings_receiver(at, c, target, sort, f);
-    }
-    any
 }

@@ -1,6 +1,6 @@
 //! The native hosts of a journal, and what each was started for.
-ghost use Rattle.std.specs.Prelude.{◌≡◌, ◌&&◌, ◌==◌, cond, is_some, length, reverse};
-ghost use Rattle.wx_machine.specs.Hosts.{starts, hosts, work_in, work_of, is_for_channel, is_for_request, is_by_host};
+ghost use Rattle.std.specs.Prelude.{◌≡◌, ◌&&◌, ◌==◌, cond, is_some, reverse};
+ghost use Rattle.wx_machine.specs.Hosts.{starts, work_in, work_of, is_for_channel, is_for_request};
 
 use crate::{channels, requests};
 use wx_id::{ChannelNo, HostNo, RequestNo};
@@ -15,20 +15,6 @@ pub fn starts(before: &[Entry], e: &Entry) -> bool
         (Who::Context(_), Call::SendNative(_, _), Answer::Request(_)) => true,
         _ => false,
     }
-}
-
-/// How many hosts were started.
-#[tactic(auto, using(wx_laws::proofs::Newest::past_at_read, wx_laws::proofs::HostsLater::hosts_more))]
-pub fn count(entries: &[Entry]) -> u64
-    ensures { result ≡ length (hosts (reverse entries.now)) }
-{
-    let mut count: u64 = 0;
-    for (i, e) in entries.iter().enumerate() {
-        if starts(&entries[..i], e) {
-            count += 1;
-        }
-    }
-    count
 }
 
 /// What the host that the entry starts works for.
@@ -91,15 +77,5 @@ pub fn is_for_request(work: Option<Work>, r: RequestNo) -> bool
     match work {
         Some(Work::Request(j)) => j == r,
         _ => false,
-    }
-}
-
-/// Host h makes the call.
-pub fn is_by_host(who: Who, h: HostNo) -> bool
-    ensures { result ≡ is_by_host who h }
-{
-    match who {
-        Who::Host(g) => g == h,
-        Who::Context(_) => false,
     }
 }

@@ -5,7 +5,5 @@
 pub mod channels;
 pub mod closing;
 pub mod contexts;
-pub mod events;
 pub mod hosts;
 pub mod requests;
-pub mod texts;

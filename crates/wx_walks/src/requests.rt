@@ -1,11 +1,10 @@
 //! The requests of a journal, whom each was sent to, and the entry that settles one.
-ghost use Rattle.std.specs.Prelude.{◌≡◌, ◌&&◌, ◌==◌, ◌∷◌, cond, is_some, filter, length, reverse, Some, None};
-ghost use Rattle.std.specs.Option.{option_or};
+ghost use Rattle.std.specs.Prelude.{◌≡◌, ◌&&◌, ◌==◌, ◌∷◌, cond, is_some, filter, length, reverse};
 ghost use Rattle.std.specs.List.{list_any};
 ghost use Rattle.wx_machine.specs.Contexts.{is_by, is_live, is_receiver, receivers_of, numbers_of, enters};
 ghost use Rattle.wx_machine.specs.Requests.{asks, requests, request, is_asker, is_asked};
 ghost use Rattle.wx_machine.specs.Settling.{is_decline, has_declined, is_open_to, has_open};
-ghost use Rattle.wx_machine.specs.Settling.{ends_request, settled_at, is_settled, settles};
+ghost use Rattle.wx_machine.specs.Settling.{ends_request};
 
 use crate::closing::is_live_after;
 use crate::contexts::{is_by, is_live, is_receiver};
@@ -280,47 +279,4 @@ pub fn ends_request(before: &[Entry], e: &Entry, r: RequestNo) -> bool
         (Who::Host(h), Call::HostEnded(_)) => is_for_request(work_of(before, *h), r),
         _ => false,
     }
-}
-
-/// The number of the entry e where it ends request r, unless an entry before did.
-fn settled_after(before: &[Entry], e: &Entry, r: RequestNo, was: Option<u64>) -> Option<u64>
-    ensures { result ≡ option_or was (cond (ends_request (reverse before.now) e.now r.0) (Some (length before.now))
-        None) }
-{
-    match was {
-        Some(n) => Some(n),
-        None => {
-            if ends_request(before, e, r) {
-                Some(before.len() as u64)
-            } else {
-                None
-            }
-        }
-    }
-}
-
-/// The number of the entry that settled request r.
-#[tactic(auto, using(wx_laws::proofs::Newest::past_at_read, wx_laws::proofs::Newest::length_past))]
-pub fn settled_at(entries: &[Entry], r: RequestNo) -> Option<u64>
-    ensures { result ≡ settled_at (reverse entries.now) r.0 }
-{
-    let mut settled = None;
-    for (i, e) in entries.iter().enumerate() {
-        settled = settled_after(&entries[..i], e, r, settled);
-    }
-    settled
-}
-
-/// Whether request r is settled.
-pub fn is_settled(entries: &[Entry], r: RequestNo) -> bool
-    ensures { result ≡ is_settled (reverse entries.now) r.0 }
-{
-    settled_at(entries, r).is_some()
-}
-
-/// The entry e settles request r.
-pub fn settles(before: &[Entry], e: &Entry, r: RequestNo) -> bool
-    ensures { result ≡ settles (reverse before.now) e.now r.0 }
-{
-    ends_request(before, e, r) && !is_settled(before, r)
 }
