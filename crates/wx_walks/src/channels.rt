@@ -33,7 +33,7 @@ pub fn count(entries: &[Entry]) -> u64
 
 /// What a context is to the channel that the entry opens.
 #[tactic(auto, using(wx_laws::proofs::ChannelsLater::is_among_receivers))]
-pub fn end_at_opening(before: &[Entry], e: &Entry, c: ContextNo) -> End
+fn end_at_opening(before: &[Entry], e: &Entry, c: ContextNo) -> End
     ensures { result ≡ end_in (opens (reverse before.now) e.now) c }
 {
     match (&e.who, &e.call, &e.answer) {

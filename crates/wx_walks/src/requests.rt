@@ -51,7 +51,7 @@ fn is_asker_at(before: &[Entry], e: &Entry, c: ContextNo) -> bool
 
 /// Whether the entry sends a request to context c.
 #[tactic(auto, using(wx_laws::proofs::ChannelsLater::is_among_receivers))]
-pub fn is_asked_at(before: &[Entry], e: &Entry, c: ContextNo) -> bool
+fn is_asked_at(before: &[Entry], e: &Entry, c: ContextNo) -> bool
     ensures { result ≡ is_asked (asks (reverse before.now) e.now) c }
 {
     match (&e.who, &e.call, &e.answer) {
