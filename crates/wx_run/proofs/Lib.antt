@@ -9,6 +9,7 @@ pub mod LawLemmas
 pub mod ViewLemmas
 pub mod SeenLemmas
 pub mod CursorLemmas
+pub mod RestLemmas
 pub mod StepLemmas
 pub mod EndLemmas
 pub mod HostLemmas

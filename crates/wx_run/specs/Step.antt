@@ -4,8 +4,8 @@ use Rattle.wx_id.specs.declared.numbers.ContextNo.{ContextNo}
 use Rattle.wx_external.specs.World.{WorldLists}
 use Rattle.wx_machine.specs.declared.entries.Who.TheVariants.{Context as ByContext}
 use Rattle.wx_machine.specs.declared.entries.Entry.{Entry}
-use Rattle.wx_machine.specs.Words.{FollowsMachine, contexts, EachAfter}
-use Rattle.wx_script.specs.Places.{next_of}
+use Rattle.wx_machine.specs.Words.{FollowsMachine, contexts, EachAfter, has_pending}
+use Rattle.wx_script.specs.Places.{next_at, next_of}
 use Rattle.wx_script.specs.Carries.{MayCome}
 use Rattle.wx_script.specs.Ends.{entries_by, entry_limit, is_idle}
 use Rattle.wx_desk.specs.History.{seen_by}
@@ -38,6 +38,11 @@ pub record Rests (c : ContextNo) (cursor moved : CursorState) (before after : Li
   pub idle : is_idle before c (next_of cursor.script c before) ≡ true
   pub same_cursor : moved ≡ cursor
   pub same : after ≡ before
+
+-- Whatever was done since, the endpoint of this cursor can do nothing where nothing is pending for it.
+abbrev pub IsIdleUnlessPending : CursorState → Type 0
+IsIdleUnlessPending cursor = (past : List Entry) (c : ContextNo) → has_pending past c ≡ false
+    → is_idle past c (next_at past cursor.place) ≡ true
 
 -- a turn of context c, in which it made an entry or none
 abbrev pub IsStep : WorldLists → ContextNo → CursorState → CursorState → List Entry → List Entry → Bool → Type 0

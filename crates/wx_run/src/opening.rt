@@ -9,7 +9,7 @@ ghost use Rattle.wx_machine.specs.declared.entries.Who.TheVariants as Who;
 ghost use Rattle.wx_machine.specs.declared.entries.Call.TheVariants as Call;
 ghost use Rattle.wx_machine.specs.declared.entries.Answer.TheVariants as Answer;
 
-use crate::step::make_turn;
+use crate::step::{Endpoint, make_turn};
 use std::alloc::Global;
 use wx_broker::Broker;
 use wx_context::Context;
@@ -45,7 +45,7 @@ fn open_one<'a>(
     alloc: Global,
     endpoint: &'a SceneEndpoint,
     desk: &mut BrokerDesk,
-) -> Result<Cursor<'a>, NoMemory>
+) -> Result<Endpoint<'a>, NoMemory>
     requires legal { IsLegal desk.old.broker.world desk.old.broker.entries }
     requires all_in { AreBelow (contexts (reverse desk.old.broker.entries)) (reverse desk.old.broker.entries) }
     ensures opened { IfOk result (λ cursor. IsOpened desk.old.broker.world endpoint.now cursor
@@ -53,11 +53,12 @@ fn open_one<'a>(
     ensures same_world { OnOk result (desk.new.broker.world ≡ desk.old.broker.world) }
 {
     desk.context = enter(&mut desk.broker, &endpoint.context)?;
-    let mut cursor = Cursor::new(alloc, &endpoint.script)?;
+    let cursor = Cursor::new(alloc, &endpoint.script)?;
+    let mut opened = Endpoint::new(cursor);
     if begins_with_listen(endpoint.script.commands()) {
-        make_turn(&mut cursor, desk)?;
+        make_turn(&mut opened, desk)?;
     }
-    Ok(cursor)
+    Ok(opened)
 }
 
 /// The opening of a run: lets each endpoint of the scene in, in order.
@@ -65,18 +66,18 @@ pub fn open<'a>(
     alloc: Global,
     scene: &'a Scene,
     desk: &mut BrokerDesk,
-) -> Result<Vec<Cursor<'a>>, NoMemory>
+) -> Result<Vec<Endpoint<'a>>, NoMemory>
     requires { desk.old.broker.entries ≡ [] }
     ensures opened { IfOk result (λ cursors. OpenedSoFar desk.old.broker.world scene.now.endpoints
         (length scene.now.endpoints) cursors.items (reverse desk.new.broker.entries)) }
     ensures same_world { OnOk result (desk.new.broker.world ≡ desk.old.broker.world) }
 {
-    let mut cursors = Vec::new(alloc);
+    let mut endpoints = Vec::new(alloc);
     for endpoint in scene.endpoints() {
-        let cursor = open_one(alloc, endpoint, desk)?;
-        if cursors.push(cursor).is_err() {
+        let opened = open_one(alloc, endpoint, desk)?;
+        if endpoints.push(opened).is_err() {
             return Err(NoMemory);
         }
     }
-    Ok(cursors)
+    Ok(endpoints)
 }

@@ -9,10 +9,9 @@ ghost use Rattle.wx_run.specs.Running.{TurnsLessen, KeepsPlaces, AreRounds};
 
 use crate::hosts::{add_slots, hear_first, serve_hosts};
 use crate::outcome::RunEnd;
-use crate::step::make_turn;
+use crate::step::{Endpoint, make_turn};
 use std::alloc::Global;
 use wx_desk::BrokerDesk;
-use wx_endpoint::Cursor;
 use wx_host_launch::Starter;
 use wx_host_slot::HostSlot;
 use wx_id::{ContextNo, NoMemory};
@@ -30,11 +29,11 @@ pub enum Rounded {
 }
 
 /// How a run ends in which nobody can do anything.
-fn end_of(cursors: &[Cursor<'_>]) -> RunEnd
-    ensures { result ≡ (if all_left cursors.now then RunEnd.Done else RunEnd.Stalled) }
+fn end_of(endpoints: &[Endpoint<'_>]) -> RunEnd
+    ensures { result ≡ (if all_left endpoints.now then RunEnd.Done else RunEnd.Stalled) }
 {
-    for cursor in cursors {
-        if !cursor.has_ended() {
+    for endpoint in endpoints {
+        if !endpoint.has_ended() {
             return RunEnd::Stalled;
         }
     }
@@ -42,26 +41,29 @@ fn end_of(cursors: &[Cursor<'_>]) -> RunEnd
 }
 
 /// The endpoints' part of a round: a turn of each, in rising number, up to the entry by which one is spent.
-fn round(cursors: &mut Vec<Cursor<'_>>, desk: &mut BrokerDesk) -> Result<Rounded, NoMemory>
-    requires stand { AllStand desk.old.broker.world (scripts_in cursors.old.items) cursors.old.items
+fn round(endpoints: &mut Vec<Endpoint<'_>>, desk: &mut BrokerDesk) -> Result<Rounded, NoMemory>
+    requires stand { AllStand desk.old.broker.world (scripts_in endpoints.old.items) endpoints.old.items
         (reverse desk.old.broker.entries) }
-    requires unspent { first_spent_in 0 cursors.old.items ≡ None }
-    ensures stand { OnOk result (AllStand desk.old.broker.world (scripts_in cursors.old.items) cursors.new.items
+    requires unspent { first_spent_in 0 endpoints.old.items ≡ None }
+    ensures stand { OnOk result (AllStand desk.old.broker.world (scripts_in endpoints.old.items) endpoints.new.items
         (reverse desk.new.broker.entries)) }
-    ensures round { IfOk result (λ rounded. IsRound (scripts_in cursors.old.items) cursors.new.items
+    ensures round { IfOk result (λ rounded. IsRound (scripts_in endpoints.old.items) endpoints.new.items
         (reverse desk.old.broker.entries) (reverse desk.new.broker.entries) rounded) }
-    ensures less { IfOk result (λ rounded. RoundLessens cursors.old.items cursors.new.items
+    ensures less { IfOk result (λ rounded. RoundLessens endpoints.old.items endpoints.new.items
         (reverse desk.old.broker.entries) (reverse desk.new.broker.entries) rounded) }
     ensures same_world { OnOk result (desk.new.broker.world ≡ desk.old.broker.world) }
 {
     let mut moved = false;
-    for i in 0..cursors.len() {
+    for i in 0..endpoints.len() {
         desk.context = ContextNo(i as u64);
-        let cursor = &mut cursors[i];
-        moved |= make_turn(cursor, desk)?;
-        if cursor.is_spent() {
+        let endpoint = &mut endpoints[i];
+        if !make_turn(endpoint, desk)? {
+            continue;
+        }
+        if endpoint.is_spent() {
             return Ok(Rounded::Spent(SpentWho::Endpoint(i as u64)));
         }
+        moved = true;
     }
     Ok(if moved { Rounded::Moved } else { Rounded::Idle })
 }
@@ -71,29 +73,29 @@ fn round(cursors: &mut Vec<Cursor<'_>>, desk: &mut BrokerDesk) -> Result<Rounded
 /// spent.
 fn whole_round<P: Starter>(
     alloc: Global,
-    cursors: &mut Vec<Cursor<'_>>,
+    endpoints: &mut Vec<Endpoint<'_>>,
     slots: &mut Vec<HostSlot<P>>,
     desk: &mut BrokerDesk,
     starter: &mut P,
 ) -> Result<Rounded, NoMemory>
-    requires { AreReady (P.state starter.old).writing desk.old.broker.world (scripts_in cursors.old.items)
-        cursors.old.items (slots_of P.state slots.old.items) (reverse desk.old.broker.entries) }
-    ensures stand { OnOk result (AllStand desk.old.broker.world (scripts_in cursors.old.items) cursors.new.items
+    requires { AreReady (P.state starter.old).writing desk.old.broker.world (scripts_in endpoints.old.items)
+        endpoints.old.items (slots_of P.state slots.old.items) (reverse desk.old.broker.entries) }
+    ensures stand { OnOk result (AllStand desk.old.broker.world (scripts_in endpoints.old.items) endpoints.new.items
         (reverse desk.new.broker.entries)) }
     ensures hosts_stand { OnOk result
         (HostsStand (P.state starter.old).writing desk.old.broker.world (reverse desk.new.broker.entries)
         (slots_of P.state slots.new.items)) }
     ensures round { (known : ℕ) → WereStartedBelow known (slots_of P.state slots.old.items)
-        → IfOk result (λ rounded. IsWholeRound known (scripts_in cursors.old.items) cursors.new.items
+        → IfOk result (λ rounded. IsWholeRound known (scripts_in endpoints.old.items) endpoints.new.items
         (slots_of P.state slots.new.items) (reverse desk.old.broker.entries) (reverse desk.new.broker.entries)
         rounded) }
-    ensures less { IfOk result (λ rounded. TurnsLessen (turns_in cursors.old.items (slots_of P.state slots.old.items))
-        (turns_in cursors.new.items (slots_of P.state slots.new.items)) rounded) }
+    ensures less { IfOk result (λ rounded. TurnsLessen (turns_in endpoints.old.items (slots_of P.state slots.old.items))
+        (turns_in endpoints.new.items (slots_of P.state slots.new.items)) rounded) }
     ensures kept { OnOk result (KeepsPlaces (slots_of P.state slots.old.items) (slots_of P.state slots.new.items)
         (P.state starter.old) (P.state starter.new)) }
     ensures same_world { OnOk result (desk.new.broker.world ≡ desk.old.broker.world) }
 {
-    let turns = round(cursors, desk)?;
+    let turns = round(endpoints, desk)?;
     if let Rounded::Spent(_) = turns {
         return Ok(turns);
     }
@@ -108,29 +110,29 @@ fn whole_round<P: Starter>(
 /// nobody can do anything, the turn of the first host that has not ended.
 fn next_round<P: Starter>(
     alloc: Global,
-    cursors: &mut Vec<Cursor<'_>>,
+    endpoints: &mut Vec<Endpoint<'_>>,
     slots: &mut Vec<HostSlot<P>>,
     desk: &mut BrokerDesk,
     starter: &mut P,
 ) -> Result<Rounded, NoMemory>
-    requires { AreReady (P.state starter.old).writing desk.old.broker.world (scripts_in cursors.old.items)
-        cursors.old.items (slots_of P.state slots.old.items) (reverse desk.old.broker.entries) }
-    ensures stand { OnOk result (AllStand desk.old.broker.world (scripts_in cursors.old.items) cursors.new.items
+    requires { AreReady (P.state starter.old).writing desk.old.broker.world (scripts_in endpoints.old.items)
+        endpoints.old.items (slots_of P.state slots.old.items) (reverse desk.old.broker.entries) }
+    ensures stand { OnOk result (AllStand desk.old.broker.world (scripts_in endpoints.old.items) endpoints.new.items
         (reverse desk.new.broker.entries)) }
     ensures hosts_stand { OnOk result
         (HostsStand (P.state starter.old).writing desk.old.broker.world (reverse desk.new.broker.entries)
         (slots_of P.state slots.new.items)) }
     ensures round { (known : ℕ) → WereStartedBelow known (slots_of P.state slots.old.items)
-        → IfOk result (λ rounded. IsNextRound known (scripts_in cursors.old.items) cursors.new.items
+        → IfOk result (λ rounded. IsNextRound known (scripts_in endpoints.old.items) endpoints.new.items
         (slots_of P.state slots.new.items) (reverse desk.old.broker.entries) (reverse desk.new.broker.entries)
         rounded) }
-    ensures less { IfOk result (λ rounded. TurnsLessen (turns_in cursors.old.items (slots_of P.state slots.old.items))
-        (turns_in cursors.new.items (slots_of P.state slots.new.items)) rounded) }
+    ensures less { IfOk result (λ rounded. TurnsLessen (turns_in endpoints.old.items (slots_of P.state slots.old.items))
+        (turns_in endpoints.new.items (slots_of P.state slots.new.items)) rounded) }
     ensures kept { OnOk result (KeepsPlaces (slots_of P.state slots.old.items) (slots_of P.state slots.new.items)
         (P.state starter.old) (P.state starter.new)) }
     ensures same_world { OnOk result (desk.new.broker.world ≡ desk.old.broker.world) }
 {
-    match whole_round(alloc, cursors, slots, desk, starter)? {
+    match whole_round(alloc, endpoints, slots, desk, starter)? {
         Rounded::Idle => hear_first(desk, slots),
         rounded => Ok(rounded),
     }
@@ -139,15 +141,15 @@ fn next_round<P: Starter>(
 /// Round after round, until nobody can do anything, or up to the entry by which someone is spent.
 pub fn run_rounds<P: Starter>(
     alloc: Global,
-    cursors: &mut Vec<Cursor<'_>>,
+    endpoints: &mut Vec<Endpoint<'_>>,
     slots: &mut Vec<HostSlot<P>>,
     desk: &mut BrokerDesk,
     starter: &mut P,
 ) -> Result<RunEnd, NoMemory>
-    requires { AreReady (P.state starter.old).writing desk.old.broker.world (scripts_in cursors.old.items)
-        cursors.old.items (slots_of P.state slots.old.items) (reverse desk.old.broker.entries) }
+    requires { AreReady (P.state starter.old).writing desk.old.broker.world (scripts_in endpoints.old.items)
+        endpoints.old.items (slots_of P.state slots.old.items) (reverse desk.old.broker.entries) }
     ensures rounds { (known : ℕ) → WereStartedBelow known (slots_of P.state slots.old.items)
-        → IfOk result (λ end. AreRounds known (scripts_in cursors.old.items) (reverse desk.old.broker.entries)
+        → IfOk result (λ end. AreRounds known (scripts_in endpoints.old.items) (reverse desk.old.broker.entries)
         (reverse desk.new.broker.entries) end) }
     ensures hosts_stand { OnOk result
         (HostsStand (P.state starter.old).writing desk.old.broker.world (reverse desk.new.broker.entries)
@@ -157,9 +159,9 @@ pub fn run_rounds<P: Starter>(
     ensures same_world { OnOk result (desk.new.broker.world ≡ desk.old.broker.world) }
 {
     loop {
-        match next_round(alloc, cursors, slots, desk, starter)? {
+        match next_round(alloc, endpoints, slots, desk, starter)? {
             Rounded::Moved => {}
-            Rounded::Idle => return Ok(end_of(cursors)),
+            Rounded::Idle => return Ok(end_of(endpoints)),
             Rounded::Spent(who) => return Ok(RunEnd::Spent(who)),
         }
     }

@@ -37,9 +37,9 @@ pub fn run_scene<P: Starter>(
     // Until a run has threads, it is made in rounds either way.
     let _ = how;
     let mut desk = BrokerDesk::new(Broker::new(alloc, world));
-    let mut cursors = open(alloc, scene, &mut desk)?;
+    let mut endpoints = open(alloc, scene, &mut desk)?;
     let mut slots = Vec::new(alloc);
-    let end = run_rounds(alloc, &mut cursors, &mut slots, &mut desk, starter)?;
+    let end = run_rounds(alloc, &mut endpoints, &mut slots, &mut desk, starter)?;
     add_slots(&desk.broker, &mut slots, starter)?;
     finish_hosts(slots, starter);
     Ok(Outcome {

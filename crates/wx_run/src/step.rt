@@ -1,22 +1,81 @@
-//! One turn of an endpoint.
+//! An endpoint of the rounds, and one turn of it.
 ghost use Rattle.std.specs.Prelude.{◌≡◌, IfOk, reverse};
+ghost use Rattle.wx_script.specs.Places.{is_left};
+ghost use Rattle.wx_run.specs.Cursors.{is_spent_at};
 ghost use Rattle.wx_run.specs.Step.{IsReady, IsStep};
 
+use std::marker::Model;
 use wx_desk::BrokerDesk;
 use wx_endpoint::{Cursor, Turned, turn};
 use wx_id::NoMemory;
 
-/// One turn of the desk's endpoint, which is not spent: whether it made an entry.
-pub fn make_turn(cursor: &mut Cursor<'_>, desk: &mut BrokerDesk) -> Result<bool, NoMemory>
-    requires { IsReady desk.old.broker.world desk.old.context cursor.old (reverse desk.old.broker.entries) }
-    ensures step { IfOk result (λ moved. IsStep desk.old.broker.world desk.old.context cursor.old cursor.new
+/// An endpoint of the rounds. Contracts see its cursor.
+#[derive(Drop)]
+pub struct Endpoint<'a> {
+    cursor: Cursor<'a>,
+    /// Whether its last turn found nothing to do: then none will, until an event is pending for it.
+    rests: bool,
+}
+
+impl<'a> Model for Endpoint<'a> {
+    ghost use Rattle.std.specs.Prelude.{◌≡◌, true};
+    ghost use Rattle.wx_endpoint.specs.Turn.{CursorState};
+    ghost use Rattle.wx_run.specs.Step.{IsIdleUnlessPending};
+
+    ghost Value = { CursorState };
+
+    ghost view = { λ endpoint. endpoint.cursor };
+
+    ghost invariant = { λ endpoint. endpoint.rests ≡ true → IsIdleUnlessPending endpoint.cursor };
+}
+
+impl<'a> Endpoint<'a> {
+    /// The endpoint with this cursor; it has not rested.
+    pub fn new(cursor: Cursor<'a>) -> Endpoint<'a>
+        ensures { result ≡ cursor }
+    {
+        Endpoint {
+            cursor,
+            rests: false,
+        }
+    }
+
+    /// Whether it stands behind its `leave`.
+    pub fn has_ended(&self) -> bool
+        ensures { result ≡ is_left self.now.place }
+    {
+        self.cursor.has_ended()
+    }
+
+    /// Whether it has made 65,536 entries, and its script has not ended.
+    pub fn is_spent(&self) -> bool
+        ensures { result ≡ is_spent_at self.now }
+    {
+        self.cursor.is_spent()
+    }
+}
+
+/// One turn of the desk's endpoint, which is not spent: whether it made an entry. One that rests is passed over where
+/// nothing is pending for it.
+pub fn make_turn(endpoint: &mut Endpoint<'_>, desk: &mut BrokerDesk) -> Result<bool, NoMemory>
+    requires { IsReady desk.old.broker.world desk.old.context endpoint.old (reverse desk.old.broker.entries) }
+    ensures step { IfOk result (λ moved. IsStep desk.old.broker.world desk.old.context endpoint.old endpoint.new
         (reverse desk.old.broker.entries) (reverse desk.new.broker.entries) moved) }
     ensures same_context { desk.new.context ≡ desk.old.context }
     ensures same_world { desk.new.broker.world ≡ desk.old.broker.world }
 {
-    match turn(cursor, desk) {
-        Turned::Moved => Ok(true),
-        Turned::Waits | Turned::Ended | Turned::Spent => Ok(false),
+    if endpoint.rests && !desk.broker.ready(desk.context) {
+        return Ok(false);
+    }
+    match turn(&mut endpoint.cursor, desk) {
+        Turned::Moved => {
+            endpoint.rests = false;
+            Ok(true)
+        }
+        Turned::Waits | Turned::Ended | Turned::Spent => {
+            endpoint.rests = true;
+            Ok(false)
+        }
         Turned::NoMemory => Err(NoMemory),
     }
 }

@@ -11,4 +11,4 @@ pub record Invariant (endpoints : List SceneEndpoint) (i : ℕ) (cursors : List 
   pub so_far : OpenedSoFar old.world endpoints i cursors (reverse new.entries)
 
 abbrev pub invariant-loop-endpoint : goal.invariant-loop-endpoint
-invariant-loop-endpoint l = Invariant l.scene.endpoints l.endpoint-index l.cursors.items l.fn.desk.broker l.desk.broker
+invariant-loop-endpoint l = Invariant l.scene.endpoints l.endpoint-index l.endpoints.items l.fn.desk.broker l.desk.broker

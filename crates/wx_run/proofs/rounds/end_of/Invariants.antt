@@ -3,5 +3,5 @@ use Rattle.wx_run.specs.Cursors.{all_left}
 use Rattle.wx_run.proofs.rounds.end_of.Given as goal
 
 -- all so far have ended
-abbrev pub invariant-loop-cursor : goal.invariant-loop-cursor
-invariant-loop-cursor l = all_left (drop l.cursor-index l.cursors) ≡ all_left l.cursors
+abbrev pub invariant-loop-endpoint : goal.invariant-loop-endpoint
+invariant-loop-endpoint l = all_left (drop l.endpoint-index l.endpoints) ≡ all_left l.endpoints

@@ -13,8 +13,8 @@ use Rattle.wx_run.proofs.rounds.next_round.Goals as goal
 
 pub hear_first-requires-clause-all : goal.hear_first-requires-clause-all
 hear_first-requires-clause-all g c κs within =
-    let scripts = scripts_in c.args.cursors.now.items in
-    let ps = c.whole_round.new.cursors.items in
+    let scripts = scripts_in c.args.endpoints.now.items in
+    let ps = c.whole_round.new.endpoints.items in
     let slots = slots_of g.P.Starter.state c.whole_round.new.slots.items in
     let a = reverse c.args.desk.now.broker.entries in
     let b = reverse c.whole_round.new.desk.broker.entries in
@@ -23,8 +23,8 @@ hear_first-requires-clause-all g c κs within =
 
 pub hear_first-requires-clause-unspent : goal.hear_first-requires-clause-unspent
 hear_first-requires-clause-unspent g c κs within =
-    let scripts = scripts_in c.args.cursors.now.items in
-    let ps = c.whole_round.new.cursors.items in
+    let scripts = scripts_in c.args.endpoints.now.items in
+    let ps = c.whole_round.new.endpoints.items in
     let slots = slots_of g.P.Starter.state c.whole_round.new.slots.items in
     let a = reverse c.args.desk.now.broker.entries in
     let b = reverse c.whole_round.new.desk.broker.entries in
@@ -33,8 +33,8 @@ hear_first-requires-clause-unspent g c κs within =
 
 pub hear_first-requires-clause-started : goal.hear_first-requires-clause-started
 hear_first-requires-clause-started g c κs within =
-    let scripts = scripts_in c.args.cursors.now.items in
-    let ps = c.whole_round.new.cursors.items in
+    let scripts = scripts_in c.args.endpoints.now.items in
+    let ps = c.whole_round.new.endpoints.items in
     let slots = slots_of g.P.Starter.state c.whole_round.new.slots.items in
     let a = reverse c.args.desk.now.broker.entries in
     let b = reverse c.whole_round.new.desk.broker.entries in
@@ -43,8 +43,8 @@ hear_first-requires-clause-started g c κs within =
 
 pub hear_first-requires-clause-none_ready : goal.hear_first-requires-clause-none_ready
 hear_first-requires-clause-none_ready g c κs within =
-    let scripts = scripts_in c.args.cursors.now.items in
-    let ps = c.whole_round.new.cursors.items in
+    let scripts = scripts_in c.args.endpoints.now.items in
+    let ps = c.whole_round.new.endpoints.items in
     let slots = slots_of g.P.Starter.state c.whole_round.new.slots.items in
     let a = reverse c.args.desk.now.broker.entries in
     let b = reverse c.whole_round.new.desk.broker.entries in
@@ -54,13 +54,13 @@ hear_first-requires-clause-none_ready g c κs within =
 pub returns-in-Idle-clause-stand : goal.returns-in-Idle-clause-stand
 returns-in-Idle-clause-stand g c =
     let legal : OnOk c.hear_first.result (IsLegal c.args.desk.now.broker.world c.hear_first.new.desk.broker.entries) = subst (λ w. OnOk c.hear_first.result (IsLegal w c.hear_first.new.desk.broker.entries)) c.in_ok-rounded.ensures.same_world c.hear_first.ensures.legal in
-    heard_stands c.args.desk.now.broker.world (scripts_in c.args.cursors.now.items) c.whole_round.new.cursors.items (slots_of g.P.Starter.state c.whole_round.new.slots.items) (slots_of g.P.Starter.state c.hear_first.new.slots.items)
+    heard_stands c.args.desk.now.broker.world (scripts_in c.args.endpoints.now.items) c.whole_round.new.endpoints.items (slots_of g.P.Starter.state c.whole_round.new.slots.items) (slots_of g.P.Starter.state c.hear_first.new.slots.items)
     (reverse c.whole_round.new.desk.broker.entries) (reverse c.hear_first.new.desk.broker.entries) c.hear_first.result c.in_ok-rounded.ensures.stand c.hear_first.ensures.heard legal
 
 pub returns-in-Idle-clause-round : goal.returns-in-Idle-clause-round
 returns-in-Idle-clause-round g c =
-    let scripts = scripts_in c.args.cursors.now.items in
-    let ps = c.whole_round.new.cursors.items in
+    let scripts = scripts_in c.args.endpoints.now.items in
+    let ps = c.whole_round.new.endpoints.items in
     let a = reverse c.args.desk.now.broker.entries in
     let b = reverse c.whole_round.new.desk.broker.entries in
     let old = slots_of g.P.Starter.state c.whole_round.new.slots.items in
@@ -72,10 +72,10 @@ returns-in-Idle-clause-round g c =
 pub returns-in-Idle-clause-less : goal.returns-in-Idle-clause-less
 returns-in-Idle-clause-less g c =
     let state = g.P.Starter.state in
-    let ps = c.whole_round.new.cursors.items in
+    let ps = c.whole_round.new.endpoints.items in
     let b = reverse c.whole_round.new.desk.broker.entries in
     let old = slots_of state c.whole_round.new.slots.items in
-    let before = turns_in c.args.cursors.now.items (slots_of state c.args.slots.now.items) in
+    let before = turns_in c.args.endpoints.now.items (slots_of state c.args.slots.now.items) in
     let less : TurnsLessen before (turns_in ps old) Idle = subst (λ r. TurnsLessen before (turns_in ps old) r) c.in-Idle.is c.in_ok-rounded.ensures.less in
     heard_lessens_on before ps old (slots_of state c.hear_first.new.slots.items) b (reverse c.hear_first.new.desk.broker.entries) c.hear_first.result less c.hear_first.ensures.heard
 
@@ -85,7 +85,7 @@ returns-in_default g c =
     record {
       stand = all.stand;
       hosts_stand = all.hosts_stand;
-      round = λ known first. next_whole known (scripts_in c.args.cursors.now.items) c.whole_round.new.cursors.items (slots_of g.P.Starter.state c.whole_round.new.slots.items)
+      round = λ known first. next_whole known (scripts_in c.args.endpoints.now.items) c.whole_round.new.endpoints.items (slots_of g.P.Starter.state c.whole_round.new.slots.items)
           (reverse c.args.desk.now.broker.entries) (reverse c.whole_round.new.desk.broker.entries) c.in_ok-rounded.rounded c.in_default.not-Idle (all.round known first);
       less = all.less;
       kept = all.kept;

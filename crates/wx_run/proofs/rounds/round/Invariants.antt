@@ -13,4 +13,4 @@ pub record Invariant (i count last : ℕ) (cursors now : List CursorState) (old 
   pub so_far : RoundSoFar old.world (scripts_in cursors) i now (reverse old.entries) (reverse new.entries) moved
 
 abbrev pub invariant-loop-i : goal.invariant-loop-i
-invariant-loop-i l = Invariant l.i (vec_len l.cursors) l.i-end l.fn.cursors.items l.cursors.items l.fn.desk.broker l.desk.broker l.moved
+invariant-loop-i l = Invariant l.i (vec_len l.endpoints) l.i-end l.fn.endpoints.items l.endpoints.items l.fn.desk.broker l.desk.broker l.moved

@@ -15,8 +15,8 @@ pub record Invariant (cursors now : List CursorState) (old_slots slots : List Sl
   pub ready : AreReady before.writing old.world (scripts_in cursors) now slots (reverse new.entries)
   pub so_far : (known : ℕ) → WereStartedBelow known old_slots → RoundsSoFar known (scripts_in cursors) slots (reverse old.entries) (reverse new.entries)
 
-abbrev pub invariant-loop-cursors : goal.invariant-loop-cursors
-invariant-loop-cursors g l = Invariant l.fn.cursors.items l.cursors.items (slots_of g.P.Starter.state l.fn.slots.items) (slots_of g.P.Starter.state l.slots.items) l.fn.desk.broker l.desk.broker (g.P.Starter.state l.fn.starter) (g.P.Starter.state l.starter)
+abbrev pub invariant-loop-endpoints : goal.invariant-loop-endpoints
+invariant-loop-endpoints g l = Invariant l.fn.endpoints.items l.endpoints.items (slots_of g.P.Starter.state l.fn.slots.items) (slots_of g.P.Starter.state l.slots.items) l.fn.desk.broker l.desk.broker (g.P.Starter.state l.fn.starter) (g.P.Starter.state l.starter)
 
-abbrev pub decreases-loop-cursors : goal.decreases-loop-cursors
-decreases-loop-cursors g l = turns_in l.cursors.items (slots_of g.P.Starter.state l.slots.items)
+abbrev pub decreases-loop-endpoints : goal.decreases-loop-endpoints
+decreases-loop-endpoints g l = turns_in l.endpoints.items (slots_of g.P.Starter.state l.slots.items)

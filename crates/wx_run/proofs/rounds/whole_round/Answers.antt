@@ -14,13 +14,13 @@ use Rattle.wx_run.proofs.rounds.whole_round.Goals as goal
 
 pub returns-in-Spent-clause-hosts_stand : goal.returns-in-Spent-clause-hosts_stand
 returns-in-Spent-clause-hosts_stand g c =
-    round_keeps (g.P.Starter.state c.args.starter.now).writing c.args.desk.now.broker.world (scripts_in c.args.cursors.now.items) c.round.new.cursors.items (slots_of g.P.Starter.state c.args.slots.now.items)
+    round_keeps (g.P.Starter.state c.args.starter.now).writing c.args.desk.now.broker.world (scripts_in c.args.endpoints.now.items) c.round.new.endpoints.items (slots_of g.P.Starter.state c.args.slots.now.items)
     (reverse c.args.desk.now.broker.entries) (reverse c.round.new.desk.broker.entries) c.in_ok-turns.turns c.in_ok-turns.ensures.round c.requires.hosts_stand
 
 pub returns-in-Spent-clause-round : goal.returns-in-Spent-clause-round
 returns-in-Spent-clause-round g c =
-    let scripts = scripts_in c.args.cursors.now.items in
-    let ps = c.round.new.cursors.items in
+    let scripts = scripts_in c.args.endpoints.now.items in
+    let ps = c.round.new.endpoints.items in
     let a = reverse c.args.desk.now.broker.entries in
     let b = reverse c.round.new.desk.broker.entries in
     let who = c.in-Spent.field-0 in
@@ -34,7 +34,7 @@ add_slots-requires-after_bounds g c κs within =
     let writing = (g.P.Starter.state c.args.starter.now).writing in
     let slots = slots_of g.P.Starter.state c.args.slots.now.items in
     let b = reverse c.round.new.desk.broker.entries in
-    let here = round_keeps writing c.args.desk.now.broker.world (scripts_in c.args.cursors.now.items) c.round.new.cursors.items slots (reverse c.args.desk.now.broker.entries) b c.in_ok-turns.turns c.in_ok-turns.ensures.round c.requires.hosts_stand in
+    let here = round_keeps writing c.args.desk.now.broker.world (scripts_in c.args.endpoints.now.items) c.round.new.endpoints.items slots (reverse c.args.desk.now.broker.entries) b c.in_ok-turns.turns c.in_ok-turns.ensures.round c.requires.hosts_stand in
     subst (λ w. HostsStand writing w b slots) (sym c.in_ok-turns.ensures.same_world) here
 
 pub returns-in-Idle : goal.returns-in-Idle
@@ -42,8 +42,8 @@ returns-in-Idle g c =
     let state = g.P.Starter.state in
     let writing = (state c.args.starter.now).writing in
     let world = c.args.desk.now.broker.world in
-    let scripts = scripts_in c.args.cursors.now.items in
-    let ps = c.round.new.cursors.items in
+    let scripts = scripts_in c.args.endpoints.now.items in
+    let ps = c.round.new.endpoints.items in
     let a = reverse c.args.desk.now.broker.entries in
     let b = reverse c.round.new.desk.broker.entries in
     let d = reverse c.serve_hosts.new.desk.broker.entries in
@@ -64,7 +64,7 @@ returns-in-Idle g c =
       stand = served_stand world scripts ps 0 mid new b d Idle turns.stand some legal;
       hosts_stand = subst (λ w. HostsStand writing w d new) turns.same_world (serves.stand writing added.stand);
       round = λ known first. whole_rested known scripts ps mid new a b d c.in_ok-turns.turns turns.round c.in_default.not-Spent all_there.all (served known first);
-      less = rested_lessens scripts c.args.cursors.now.items ps 0 old mid new a b d c.in_ok-turns.turns turns.round turns.less c.requires.all all_there some;
+      less = rested_lessens scripts c.args.endpoints.now.items ps 0 old mid new a b d c.in_ok-turns.turns turns.round turns.less c.requires.all all_there some;
       kept = keeps_on old mid new (state c.args.starter.now) (state c.add_slots.new.starter) (state c.add_slots.new.starter) keeps
           (keeps_same mid new (state c.add_slots.new.starter) (same_sizes state c.add_slots.new.slots.items c.serve_hosts.new.slots.items serves.same_size));
       same_world = serves.same_world ∙ turns.same_world;
@@ -75,8 +75,8 @@ returns-in_default-2 g c =
     let state = g.P.Starter.state in
     let writing = (state c.args.starter.now).writing in
     let world = c.args.desk.now.broker.world in
-    let scripts = scripts_in c.args.cursors.now.items in
-    let ps = c.round.new.cursors.items in
+    let scripts = scripts_in c.args.endpoints.now.items in
+    let ps = c.round.new.endpoints.items in
     let a = reverse c.args.desk.now.broker.entries in
     let b = reverse c.round.new.desk.broker.entries in
     let d = reverse c.serve_hosts.new.desk.broker.entries in
@@ -99,7 +99,7 @@ returns-in_default-2 g c =
       stand = served_stand world scripts ps 0 mid new b d r turns.stand some legal;
       hosts_stand = subst (λ w. HostsStand writing w d new) turns.same_world (serves.stand writing added.stand);
       round = λ known first. whole_served known world scripts ps mid new a b d r turns.stand made.0 made.1 (size ∙ all_there.all) c.in_default-2.not-Idle (served known first);
-      less = served_lessens c.args.cursors.now.items ps 0 old mid new a b d r c.in_ok-turns.turns turns.less c.in_default.not-Spent c.requires.all all_there c.in_default-2.not-Idle some;
+      less = served_lessens c.args.endpoints.now.items ps 0 old mid new a b d r c.in_ok-turns.turns turns.less c.in_default.not-Spent c.requires.all all_there c.in_default-2.not-Idle some;
       kept = keeps_on old mid new (state c.args.starter.now) (state c.add_slots.new.starter) (state c.add_slots.new.starter) keeps (keeps_same mid new (state c.add_slots.new.starter) size);
       same_world = serves.same_world ∙ turns.same_world;
     }

@@ -21,25 +21,25 @@ run_rounds-requires-after_bounds g c κs within =
     let writing = (g.P.Starter.state c.args.starter.now).writing in
     let world = c.open.new.desk.broker.world in
     let past = reverse c.open.new.desk.broker.entries in
-    let ps = c.in_ok-cursors.cursors.items in
+    let ps = c.in_ok-endpoints.endpoints.items in
     let endpoints = c.args.scene.now.endpoints in
     let ready : AreReady writing world (scripts_in ps) ps [] past = opened_ready writing world endpoints ps past
-    (subst (λ w. OpenedSoFar w endpoints (length endpoints) ps past) (sym c.in_ok-cursors.ensures.same_world) c.in_ok-cursors.ensures.opened) in
+    (subst (λ w. OpenedSoFar w endpoints (length endpoints) ps past) (sym c.in_ok-endpoints.ensures.same_world) c.in_ok-endpoints.ensures.opened) in
     subst (λ slots. AreReady writing world (scripts_in ps) ps (slots_of g.P.Starter.state slots) past) (sym c.new-slots.ensures.items) ready
 
 pub returns-clause-run : goal.returns-clause-run
 returns-clause-run g c =
     let entries = c.run_rounds.new.desk.broker.entries in
-    let same : c.run_rounds.new.desk.broker.world ≡ c.args.world = c.in_ok-end.ensures.same_world ∙ c.in_ok-cursors.ensures.same_world ∙ ap (λ (b : BrokerState). b.world) c.new-desk.ensures ∙ c.new.ensures.world in
+    let same : c.run_rounds.new.desk.broker.world ≡ c.args.world = c.in_ok-end.ensures.same_world ∙ c.in_ok-endpoints.ensures.same_world ∙ ap (λ (b : BrokerState). b.world) c.new-desk.ensures ∙ c.new.ensures.world in
     let legal : IsLegal c.args.world entries = subst (λ world. IsLegal world entries) same (subst (λ (b : BrokerState). IsLegal b.world b.entries) c.into_broker.ensures c.into_journal.ensures.legal) in
     let within = c.in_ok-add_slots.ensures.stand.within_limit in
-    let rounds = opened_rounds c.new-desk.result.broker.world c.args.scene.now c.in_ok-cursors.cursors.items (reverse c.open.new.desk.broker.entries) (reverse entries) c.in_ok-end.end c.in_ok-cursors.ensures.opened (c.in_ok-end.ensures.rounds 0 (none_below _)) in
+    let rounds = opened_rounds c.new-desk.result.broker.world c.args.scene.now c.in_ok-endpoints.endpoints.items (reverse c.open.new.desk.broker.entries) (reverse entries) c.in_ok-end.end c.in_ok-endpoints.ensures.opened (c.in_ok-end.ensures.rounds 0 (none_below _)) in
     subst (λ entries. IsRunOf c.args.world c.args.scene.now entries c.in_ok-end.end) (sym (c.into_journal.ensures.entries ∙ ap (λ (b : BrokerState). b.entries) c.into_broker.ensures)) (run_of c.args.world c.args.scene.now entries c.in_ok-end.end legal within rounds)
 
 pub returns-clause-rounds : goal.returns-clause-rounds
 returns-clause-rounds g c how =
     let entries = c.run_rounds.new.desk.broker.entries in
-    let rounds = opened_rounds c.new-desk.result.broker.world c.args.scene.now c.in_ok-cursors.cursors.items (reverse c.open.new.desk.broker.entries) (reverse entries) c.in_ok-end.end c.in_ok-cursors.ensures.opened (c.in_ok-end.ensures.rounds 0 (none_below _)) in
+    let rounds = opened_rounds c.new-desk.result.broker.world c.args.scene.now c.in_ok-endpoints.endpoints.items (reverse c.open.new.desk.broker.entries) (reverse entries) c.in_ok-end.end c.in_ok-endpoints.ensures.opened (c.in_ok-end.ensures.rounds 0 (none_below _)) in
     subst (IsInRounds c.args.scene.now) (sym (c.into_journal.ensures.entries ∙ ap (λ (b : BrokerState). b.entries) c.into_broker.ensures)) (record { count = rounds.count; in_rounds = rounds.rounds })
 
 pub returns-clause-records : goal.returns-clause-records
@@ -54,8 +54,8 @@ returns-clause-records g c =
     let slots = slots_of state c.add_slots.new.slots.items in
     let scripts = scripts_of c.args.scene.now in
     let added = c.in_ok-add_slots.ensures in
-    let same : c.run_rounds.new.desk.broker.world ≡ c.args.world = c.in_ok-end.ensures.same_world ∙ c.in_ok-cursors.ensures.same_world ∙ ap (λ (b : BrokerState). b.world) c.new-desk.ensures ∙ c.new.ensures.world in
-    let rounds = opened_rounds c.new-desk.result.broker.world c.args.scene.now c.in_ok-cursors.cursors.items (reverse c.open.new.desk.broker.entries) past c.in_ok-end.end c.in_ok-cursors.ensures.opened (c.in_ok-end.ensures.rounds 0 (none_below _)) in
+    let same : c.run_rounds.new.desk.broker.world ≡ c.args.world = c.in_ok-end.ensures.same_world ∙ c.in_ok-endpoints.ensures.same_world ∙ ap (λ (b : BrokerState). b.world) c.new-desk.ensures ∙ c.new.ensures.world in
+    let rounds = opened_rounds c.new-desk.result.broker.world c.args.scene.now c.in_ok-endpoints.endpoints.items (reverse c.open.new.desk.broker.entries) past c.in_ok-end.end c.in_ok-endpoints.ensures.opened (c.in_ok-end.ensures.rounds 0 (none_below _)) in
     let first : KeepsPlaces [] ran old between = subst (λ slots. KeepsPlaces (slots_of state slots) ran old between) c.new-slots.ensures.items c.in_ok-end.ensures.kept in
     let second = places_added state _ _ past c.run_rounds.new.slots.items c.add_slots.new.slots.items between mid c.in_ok-end.ensures.hosts_stand added.all added.kept in
     let stand = hosts_now old.writing between.writing c.args.world c.run_rounds.new.desk.broker.world past slots (keeps_writing _ _ _ _ first) same added.stand in
