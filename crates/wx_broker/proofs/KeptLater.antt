@@ -1,6 +1,6 @@
 -- The journal is legal and the tables tell it, one entry later.
 use Rattle.std.proofs.Common.{◌≡◌, ℕ, List, [], ◌∷◌, ◌++◌, length, refl, ap, sym, ◌∙◌, true, false, cond, not, subst, map, append-nil}
-use Rattle.std.specs.Prelude.{None, Ok, Err, OnOk, OnErr, is_err, ◌<◌, ◌≤◌, nat_lt, reverse, slice_get, ◌&&◌, ◌==◌}
+use Rattle.std.specs.Prelude.{None, Ok, Err, OnOk, is_err, ◌<◌, ◌≤◌, nat_lt, reverse, slice_get, ◌&&◌, ◌==◌}
 use Rattle.std.specs.Option.{option_map}
 use Rattle.std.specs.declared.result.Result.{Result}
 use Rattle.std.proofs.lemmas.Bool.{lt-ltb, le-leb}

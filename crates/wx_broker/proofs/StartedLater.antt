@@ -1,5 +1,5 @@
 -- A native call that is answered with a number: what it starts, and how the tables tell of it.
-use Rattle.std.proofs.Common.{◌≡◌, ℕ, ◌≤◌, List, [], ◌∷◌, ◌++◌, length, sym, ap, ◌∙◌, Bool, true, false, cond, subst, refl}
+use Rattle.std.proofs.Common.{◌≡◌, ℕ, List, [], ◌∷◌, ◌++◌, length, sym, ap, ◌∙◌, Bool, true, false, cond, refl}
 use Rattle.std.specs.Prelude.{Option, Some, None, is_some, reverse, nat_lt}
 use Rattle.std.proofs.lemmas.Bool.{false≢true}
 use Rattle.wx_id.specs.declared.numbers.ContextNo.{ContextNo}

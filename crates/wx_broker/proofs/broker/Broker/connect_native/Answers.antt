@@ -1,21 +1,16 @@
-use Rattle.std.proofs.Common.{◌≡◌, ℕ, ◌≤◌, ◌∙◌, ◌++◌, ◌∷◌, [], sym, ap, length, refl, true, arith}
-use Rattle.std.specs.Prelude.{is_some, reverse, Some, None, Option}
-use Rattle.std.proofs.lemmas.Bool.{false≢true}
+use Rattle.std.proofs.Common.{◌≡◌, ℕ, ◌≤◌, ◌∙◌, sym, ap, length, true, arith}
+use Rattle.std.specs.Prelude.{reverse}
 use Rattle.wx_id.specs.declared.numbers.ChannelNo.{ChannelNo}
-use Rattle.wx_machine.specs.declared.entries.Answer.{Answer}
 use Rattle.wx_machine.specs.declared.entries.Answer.TheVariants.{Channel as OnChannel}
 use Rattle.wx_machine.specs.declared.work.Work.TheVariants.{Channel as ForChannel}
 use Rattle.wx_machine.specs.Words.{channels, context_of, is_live, FollowsMachine}
-use Rattle.wx_native_hosts.specs.Hosts.{started}
 use Rattle.wx_broker.specs.Tables.{is_channel}
 use Rattle.wx_broker.specs.Views.{view_for}
-use Rattle.wx_broker.specs.declared.host_view.HostView.{HostView}
 use Rattle.wx_broker.proofs.KeptLater.{may_call, ok_holds}
 use Rattle.wx_broker.proofs.PortsLater.{channels_counted}
-use Rattle.wx_broker.specs.Told.{IsTold, start_for}
 use Rattle.wx_broker.proofs.HostReadings.{new_on_channel}
 use Rattle.wx_broker.proofs.NativeStartsLater.{connected_entry}
-use Rattle.wx_broker.proofs.StartedLater.{connect_given, start_is, start_work, told_connected_native}
+use Rattle.wx_broker.proofs.StartedLater.{connect_given, start_work, told_connected_native}
 use Rattle.wx_broker.proofs.broker.Broker.connect_native.Goals as goal
 
 pub new_host-requires : goal.new_host-requires
