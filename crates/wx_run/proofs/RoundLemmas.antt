@@ -1,6 +1,6 @@
 -- One more turn of a round.
 use Rattle.std.proofs.Common.{◌≡◌, ℕ, ◌+◌, ◌-◌, ◌<◌, ◌≤◌, length, take, set, get_or, arith, Bool, true, false, List, [], ◌∷◌, ◌++◌, Some, None, refl, sym, ap, ◌∙◌, subst, inl, inr, eqb}
-use Rattle.std.specs.Prelude.{slice_get, ◌||◌}
+use Rattle.std.specs.Prelude.{slice_get}
 use Rattle.std.proofs.lemmas.Bool.{cases_lt, eqb-true, eq-eqb}
 use Rattle.std.proofs.lemmas.Option.{slice_get_read, slice_get_within}
 use Rattle.std.proofs.Math.Seq.{take-length}
@@ -20,7 +20,7 @@ use Rattle.wx_script.specs.declared.scene.SpentWho.TheVariants.{Endpoint}
 use Rattle.wx_run.specs.declared.rounds.Rounded.TheVariants.{Idle, Spent}
 use Rattle.wx_run.specs.Cursors.{cursor_of, cursors_from, AreBehind, is_spent_at, first_spent_in, work_in, scripts_in}
 use Rattle.wx_run.specs.Rounds.{Turn, Turns}
-use Rattle.wx_run.specs.Step.{IsReady, Moves, Rests, IsStep}
+use Rattle.wx_run.specs.Step.{IsReady, Moves, Rests}
 use Rattle.wx_run.specs.Round.{AllStand, IsWithinLimit, AreIdleBelow, IdleUnlessMoved, RoundSoFar, IsRound, SpendsEndpoint, Falls, Lessens}
 use Rattle.wx_id.proofs.ListLemmas.{set_same}
 use Rattle.wx_run.proofs.ListLemmas.{take-snoc, length-take-at, element_at, sum_by-less}
@@ -133,7 +133,7 @@ idle_step scripts i s a b idle is now = record {
 }
 
 -- the turn of an endpoint that makes an entry, behind which it is not spent
-round_moves : (world : WorldLists) (scripts : List (List Command)) (i : ℕ) (ps qs : List CursorState) (p q : CursorState) (a b c : List Entry) (moved : Bool)
+pub round_moves : (world : WorldLists) (scripts : List (List Command)) (i : ℕ) (ps qs : List CursorState) (p q : CursorState) (a b c : List Entry) (moved : Bool)
     → RoundSoFar world scripts i ps a b moved → At scripts i ps qs p q → Moves world (numbered i) p q b c → is_spent_at q ≡ false → RoundSoFar world scripts (i + 1) qs a c true
 round_moves world scripts i ps qs p q a b c moved so at moves is = record {
   stand = moved_stand world scripts i ps qs p q b c so.stand at moves;
@@ -143,7 +143,7 @@ round_moves world scripts i ps qs p q a b c moved so at moves is = record {
 }
 
 -- the turn of an endpoint that makes an entry, behind which it is spent
-round_spends : (world : WorldLists) (scripts : List (List Command)) (i : ℕ) (ps qs : List CursorState) (p q : CursorState) (a b c : List Entry) (moved : Bool)
+pub round_spends : (world : WorldLists) (scripts : List (List Command)) (i : ℕ) (ps qs : List CursorState) (p q : CursorState) (a b c : List Entry) (moved : Bool)
     → RoundSoFar world scripts i ps a b moved → At scripts i ps qs p q → Moves world (numbered i) p q b c → is_spent_at q ≡ true
     → AllStand world scripts qs c × IsRound scripts qs a c (Spent (Endpoint i))
 round_spends world scripts i ps qs p q a b c moved so at moves is =
@@ -163,7 +163,7 @@ same_cursors : (scripts : List (List Command)) (i : ℕ) (ps qs : List CursorSta
 same_cursors scripts i ps qs p q at same = at.changed ∙ ap (λ q. set ps i q) same ∙ set_same ps i p at.stands
 
 -- the turn of an endpoint that can do nothing
-round_rests : (world : WorldLists) (scripts : List (List Command)) (i : ℕ) (ps qs : List CursorState) (p q : CursorState) (a b c : List Entry) (moved : Bool)
+pub round_rests : (world : WorldLists) (scripts : List (List Command)) (i : ℕ) (ps qs : List CursorState) (p q : CursorState) (a b c : List Entry) (moved : Bool)
     → RoundSoFar world scripts i ps a b moved → At scripts i ps qs p q → Rests (numbered i) p q b c → RoundSoFar world scripts (i + 1) qs a c moved
 round_rests world scripts i ps qs p q a b c moved so at rests =
     let same : qs ≡ ps = same_cursors scripts i ps qs p q at rests.same_cursor in
@@ -191,28 +191,12 @@ moves_less world scripts i ps qs p q b c stand at moves =
     let less : entry_limit - q.made < entry_limit - p.made = (let below = moves.within_limit in omega arith) in
     rw at.changed (sum_by-less (λ (cursor : CursorState). entry_limit - cursor.made) ps i p q at.stands less)
 
--- ---- one more turn, whatever it came to
-
-pub turn_made : (world : WorldLists) (scripts : List (List Command)) (i : ℕ) (ps qs : List CursorState) (p q : CursorState) (a b c : List Entry) (moved made : Bool)
-    → RoundSoFar world scripts i ps a b moved → At scripts i ps qs p q → IsStep world (numbered i) p q b c made → is_spent_at q ≡ false → RoundSoFar world scripts (i + 1) qs a c (moved || made)
-turn_made world scripts i ps qs p q a b c true true so at step is = round_moves world scripts i ps qs p q a b c true so at step is
-turn_made world scripts i ps qs p q a b c false true so at step is = round_moves world scripts i ps qs p q a b c false so at step is
-turn_made world scripts i ps qs p q a b c true false so at step is = round_rests world scripts i ps qs p q a b c true so at step
-turn_made world scripts i ps qs p q a b c false false so at step is = round_rests world scripts i ps qs p q a b c false so at step
-
-pub turn_spends : (world : WorldLists) (scripts : List (List Command)) (i : ℕ) (ps qs : List CursorState) (p q : CursorState) (a b c : List Entry) (moved made : Bool)
-    → RoundSoFar world scripts i ps a b moved → At scripts i ps qs p q → IsStep world (numbered i) p q b c made → is_spent_at q ≡ true → AllStand world scripts qs c × IsRound scripts qs a c (Spent (Endpoint i))
-turn_spends world scripts i ps qs p q a b c moved true so at step is = round_spends world scripts i ps qs p q a b c moved so at step is
-turn_spends world scripts i ps qs p q a b c moved false so at step is =
-    let never : true ≡ false = sym is ∙ ap is_spent_at step.same_cursor ∙ none_at is_spent_at ps 0 i p so.unspent at.stands in
-    absurd cc
-
 turn_falls : (moved : Bool) (old before now : ℕ) → Falls moved old before → now < before → Falls true old now
 turn_falls true old before now fell less = omega arith
 turn_falls false old before now fell less = omega arith
 
 -- fewer entries may be made behind one, which calls one host at most
-moves_lessen : (world : WorldLists) (scripts : List (List Command)) (i : ℕ) (rs ps qs : List CursorState) (p q : CursorState) (a b c : List Entry) (moved : Bool)
+pub moves_lessen : (world : WorldLists) (scripts : List (List Command)) (i : ℕ) (rs ps qs : List CursorState) (p q : CursorState) (a b c : List Entry) (moved : Bool)
     → AllStand world scripts ps b → At scripts i ps qs p q → Moves world (numbered i) p q b c → Lessens moved rs ps a b → Lessens true rs qs a c
 moves_lessen world scripts i rs ps qs p q a b c moved stand at moves less =
     let fewer = moves_less world scripts i ps qs p q b c stand at moves in
@@ -222,18 +206,11 @@ moves_lessen world scripts i rs ps qs p q a b c moved stand at moves less =
       one_host_each = (let before = less.one_host_each in omega (arith, before, fewer, called));
     }
 
-rests_lessen : (scripts : List (List Command)) (i : ℕ) (rs ps qs : List CursorState) (p q : CursorState) (a b c : List Entry) (moved : Bool)
+pub rests_lessen : (scripts : List (List Command)) (i : ℕ) (rs ps qs : List CursorState) (p q : CursorState) (a b c : List Entry) (moved : Bool)
     → At scripts i ps qs p q → Rests (numbered i) p q b c → Lessens moved rs ps a b → Lessens moved rs qs a c
 rests_lessen scripts i rs ps qs p q a b c moved at rests less =
     subst (λ c. Lessens moved rs qs a c) (sym rests.same)
     (subst (λ qs. Lessens moved rs qs a b) (sym (same_cursors scripts i ps qs p q at rests.same_cursor)) less)
-
-pub turn_lessens : (world : WorldLists) (scripts : List (List Command)) (i : ℕ) (rs ps qs : List CursorState) (p q : CursorState) (a b c : List Entry) (moved made : Bool)
-    → AllStand world scripts ps b → At scripts i ps qs p q → IsStep world (numbered i) p q b c made → Lessens moved rs ps a b → Lessens (moved || made) rs qs a c
-turn_lessens world scripts i rs ps qs p q a b c true true stand at step less = moves_lessen world scripts i rs ps qs p q a b c true stand at step less
-turn_lessens world scripts i rs ps qs p q a b c false true stand at step less = moves_lessen world scripts i rs ps qs p q a b c false stand at step less
-turn_lessens world scripts i rs ps qs p q a b c true false stand at step less = rests_lessen scripts i rs ps qs p q a b c true at step less
-turn_lessens world scripts i rs ps qs p q a b c false false stand at step less = rests_lessen scripts i rs ps qs p q a b c false at step less
 
 pub round_begins : (world : WorldLists) (scripts : List (List Command)) (ps : List CursorState) (a : List Entry) → AllStand world scripts ps a → first_spent_in 0 ps ≡ None → RoundSoFar world scripts 0 ps a a false
 round_begins world scripts ps a stand unspent = record { stand = stand; unspent = unspent; turns = refl; idle = record { same = refl; idle = λ c s below is. absurd (omega arith) } }

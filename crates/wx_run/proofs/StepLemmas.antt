@@ -12,15 +12,16 @@ use Rattle.wx_script.specs.Places.{Place, outside, within, left, is_left, waits,
 use Rattle.wx_script.specs.Ends.{is_idle, entry_limit}
 use Rattle.wx_desk.specs.History.{entries_in, seen_by}
 use Rattle.wx_endpoint.specs.History.{CarriesOn}
-use Rattle.wx_desk.specs.Desks.{ContextDeskState, IsSound, MakesNone, own_entry, after_own}
+use Rattle.wx_desk.specs.Desks.{ContextDeskState, past_of, IsSound, MakesNone, own_entry, after_own}
 use Rattle.wx_endpoint.specs.Turn as turn
 use Rattle.wx_endpoint.specs.Turn.{CursorState, StandsBehind}
 use Rattle.wx_endpoint.specs.declared.cursor.Turned.{Turned}
 use Rattle.wx_endpoint.specs.declared.cursor.Turned.TheVariants.{Waits, Ended, Spent}
 use Rattle.wx_run.specs.Cursors.{cursor_of, is_spent_at}
-use Rattle.wx_run.specs.Step.{IsReady, Moves, Rests}
+use Rattle.wx_run.specs.Step.{IsReady, Moves, Rests, IsIdleUnlessPending}
 use Rattle.wx_desk.proofs.OverLemmas.{entries_in-seen_by}
 use Rattle.wx_run.proofs.SeenLemmas.{place_in-seen_by, own_in-seen_by, may_come}
+use Rattle.wx_run.proofs.RestLemmas.{waits_on, ended_on}
 
 -- the desk of context c over the one journal
 abbrev pub desk_of : ContextNo → WorldLists → List Entry → ContextDeskState
@@ -133,5 +134,23 @@ rested c d world other a b p q t ready (inr (inl is)) came =
     let rests = subst (λ t. turn.IsTurn p q (desk_of c world a) (desk_of d other b) t) is came in
     (ended c d world other a b p q ready rests.0 rests.1, ap (λ (desk : ContextDeskState). desk.who) rests.0.same, ap (λ (desk : ContextDeskState). desk.world) rests.0.same)
 rested c d world other a b p q t ready (inr (inr is)) came =
+    let rests = subst (λ t. turn.IsTurn p q (desk_of c world a) (desk_of d other b) t) is came in
+    absurd (unspent c d world other a b p ready rests.0)
+
+-- an endpoint that can do nothing is passed over
+pub passed_over : (world : WorldLists) (c : ContextNo) (p : CursorState) (past : List Entry) → IsReady world c p past → is_idle past c (next_at past p.place) ≡ true → Rests c p p past past
+passed_over world c p past ready idle = record { idle = subst (λ n. is_idle past c n ≡ true) (next_is world c p past ready) idle; same_cursor = refl; same = refl }
+
+-- a turn that made no entry, with memory enough, leaves an endpoint that rests
+pub rests_on : (c d : ContextNo) (world other : WorldLists) (a b : List Entry) (p q : CursorState) (t : Turned) → IsReady world c p a
+    → (t ≡ Waits) ⊎ ((t ≡ Ended) ⊎ (t ≡ Spent)) → turn.IsTurn p q (desk_of c world a) (desk_of d other b) t
+    → StandsBehind q (desk_of d other b) → IsSound (desk_of d other b) → IsIdleUnlessPending q
+rests_on c d world other a b p q t ready (inl is) came stands sound =
+    let rests = subst (λ t. turn.IsTurn p q (desk_of c world a) (desk_of d other b) t) is came in
+    waits_on q (desk_of d other b) sound stands (subst (λ (p : CursorState). next_at (past_of (desk_of d other b)) p.place ≡ waits) (sym rests.1) rests.0.waiting)
+rests_on c d world other a b p q t ready (inr (inl is)) came stands sound =
+    let rests = subst (λ t. turn.IsTurn p q (desk_of c world a) (desk_of d other b) t) is came in
+    ended_on q (ap (λ (p : CursorState). p.place) rests.1 ∙ rests.0.ended)
+rests_on c d world other a b p q t ready (inr (inr is)) came stands sound =
     let rests = subst (λ t. turn.IsTurn p q (desk_of c world a) (desk_of d other b) t) is came in
     absurd (unspent c d world other a b p ready rests.0)

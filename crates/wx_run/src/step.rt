@@ -1,6 +1,8 @@
 //! An endpoint of the rounds, and one turn of it.
-ghost use Rattle.std.specs.Prelude.{◌≡◌, IfOk, reverse};
-ghost use Rattle.wx_script.specs.Places.{is_left};
+ghost use Rattle.std.specs.Prelude.{◌≡◌, ◌<◌, true, IfOk, reverse};
+ghost use Rattle.wx_machine.specs.Contexts.{contexts};
+ghost use Rattle.wx_script.specs.Places.{is_left, next_at};
+ghost use Rattle.wx_script.specs.Ends.{is_idle};
 ghost use Rattle.wx_run.specs.Cursors.{is_spent_at};
 ghost use Rattle.wx_run.specs.Step.{IsReady, IsStep};
 
@@ -32,7 +34,7 @@ impl<'a> Model for Endpoint<'a> {
 impl<'a> Endpoint<'a> {
     /// The endpoint with this cursor; it has not rested.
     pub fn new(cursor: Cursor<'a>) -> Endpoint<'a>
-        ensures { result ≡ cursor }
+        ensures { result ≡ cursor.entry }
     {
         Endpoint {
             cursor,
@@ -53,6 +55,15 @@ impl<'a> Endpoint<'a> {
     {
         self.cursor.is_spent()
     }
+
+    /// Whether it rests, and nothing is pending for it: then it can do nothing.
+    fn stays_idle(&self, desk: &BrokerDesk) -> bool
+        requires { desk.now.context.0 < contexts (reverse desk.now.broker.entries) }
+        ensures { result ≡ true → is_idle (reverse desk.now.broker.entries) desk.now.context
+            (next_at (reverse desk.now.broker.entries) self.now.place) ≡ true }
+    {
+        self.rests && !desk.broker.ready(desk.context)
+    }
 }
 
 /// One turn of the desk's endpoint, which is not spent: whether it made an entry. One that rests is passed over where
@@ -64,7 +75,7 @@ pub fn make_turn(endpoint: &mut Endpoint<'_>, desk: &mut BrokerDesk) -> Result<b
     ensures same_context { desk.new.context ≡ desk.old.context }
     ensures same_world { desk.new.broker.world ≡ desk.old.broker.world }
 {
-    if endpoint.rests && !desk.broker.ready(desk.context) {
+    if endpoint.stays_idle(desk) {
         return Ok(false);
     }
     match turn(&mut endpoint.cursor, desk) {

@@ -2,9 +2,9 @@ use Rattle.std.proofs.Common.{◌≡◌, ◌∙◌, ◌<◌, length, arith, sym,
 use Rattle.std.specs.Prelude.{reverse}
 use Rattle.wx_script.specs.Ends.{numbered}
 use Rattle.wx_run.specs.Cursors.{scripts_in}
-use Rattle.wx_run.specs.Step.{IsReady, IsStep}
+use Rattle.wx_run.specs.Step.{IsReady, Moves, Rests, IsStep}
 use Rattle.wx_run.specs.Round.{RoundSoFar}
-use Rattle.wx_run.proofs.RoundLemmas.{at_index, ready_at, turn_made, turn_spends, turn_lessens, round_begins, all_turns, all_idle, length_behind}
+use Rattle.wx_run.proofs.RoundLemmas.{at_index, ready_at, round_moves, round_spends, round_rests, moves_lessen, rests_lessen, round_begins, all_turns, all_idle, length_behind}
 use Rattle.wx_run.proofs.rounds.round.Goals as goal
 
 pub loop-i-init : goal.loop-i-init
@@ -24,6 +24,22 @@ make_turn-requires c =
     subst (λ w. IsReady w (numbered c.loop-i.i) p (reverse c.loop-i.desk.broker.entries)) (sym c.loop-i.invariant.same_world)
     (ready_at c.args.desk.now.broker.world (scripts_in c.args.endpoints.now.items) c.loop-i.i c.loop-i.endpoints.items _ p p _ so.stand so.unspent at)
 
+pub loop-i-preserved-then-not-branch : goal.loop-i-preserved-then-not-branch
+loop-i-preserved-then-not-branch c =
+    let so = c.loop-i.invariant.so_far in
+    let p = c.index_mut-endpoint.result.now in
+    let q = c.make_turn.new.endpoint in
+    let below : c.loop-i.i < length c.loop-i.endpoints.items = omega (arith, c.loop-i.endpoints.ok.0, c.loop-i.invariant.same_length, c.loop-i-test.true) in
+    let at = at_index (scripts_in c.args.endpoints.now.items) c.loop-i.endpoints.items c.loop-i.i p q _ so.stand.behind below c.index_mut-endpoint.ensures.value in
+    let rests : Rests (numbered c.loop-i.i) p q (reverse c.loop-i.desk.broker.entries) (reverse c.make_turn.new.desk.broker.entries) =
+    subst (λ made. IsStep c.loop-i.desk.broker.world (numbered c.loop-i.i) p q (reverse c.loop-i.desk.broker.entries) (reverse c.make_turn.new.desk.broker.entries) made) c.if-not-branch.true c.in_ok-make_turn.ensures.step in
+    record {
+      same_length = c.loop-i.invariant.same_length;
+      same_world = c.in_ok-make_turn.ensures.same_world ∙ c.loop-i.invariant.same_world;
+      less = rests_lessen (scripts_in c.args.endpoints.now.items) c.loop-i.i c.args.endpoints.now.items c.loop-i.endpoints.items _ p q _ _ _ c.loop-i.moved at rests c.loop-i.invariant.less;
+      so_far = round_rests c.args.desk.now.broker.world (scripts_in c.args.endpoints.now.items) c.loop-i.i c.loop-i.endpoints.items _ p q _ _ _ c.loop-i.moved so at rests;
+    }
+
 pub returns-then-is_spent-clause-stand : goal.returns-then-is_spent-clause-stand
 returns-then-is_spent-clause-stand c =
     let so = c.loop-i.invariant.so_far in
@@ -31,9 +47,11 @@ returns-then-is_spent-clause-stand c =
     let q = c.make_turn.new.endpoint in
     let below : c.loop-i.i < length c.loop-i.endpoints.items = omega (arith, c.loop-i.endpoints.ok.0, c.loop-i.invariant.same_length, c.loop-i-test.true) in
     let at = at_index (scripts_in c.args.endpoints.now.items) c.loop-i.endpoints.items c.loop-i.i p q _ so.stand.behind below c.index_mut-endpoint.ensures.value in
-    let step : IsStep c.args.desk.now.broker.world (numbered c.loop-i.i) p q (reverse c.loop-i.desk.broker.entries) (reverse c.make_turn.new.desk.broker.entries) c.in_ok-moved.field-0 =
-    subst (λ w. IsStep w (numbered c.loop-i.i) p q (reverse c.loop-i.desk.broker.entries) (reverse c.make_turn.new.desk.broker.entries) c.in_ok-moved.field-0) c.loop-i.invariant.same_world c.in_ok-moved.ensures.step in
-    (turn_spends c.args.desk.now.broker.world (scripts_in c.args.endpoints.now.items) c.loop-i.i c.loop-i.endpoints.items _ p q _ _ _ c.loop-i.moved c.in_ok-moved.field-0 so at step (sym c.if-is_spent.ensures)).0
+    let step : IsStep c.loop-i.desk.broker.world (numbered c.loop-i.i) p q (reverse c.loop-i.desk.broker.entries) (reverse c.make_turn.new.desk.broker.entries) true =
+    subst (λ made. IsStep c.loop-i.desk.broker.world (numbered c.loop-i.i) p q (reverse c.loop-i.desk.broker.entries) (reverse c.make_turn.new.desk.broker.entries) made) c.if-not-branch.false c.in_ok-make_turn.ensures.step in
+    let moves : Moves c.args.desk.now.broker.world (numbered c.loop-i.i) p q (reverse c.loop-i.desk.broker.entries) (reverse c.make_turn.new.desk.broker.entries) =
+    subst (λ w. Moves w (numbered c.loop-i.i) p q (reverse c.loop-i.desk.broker.entries) (reverse c.make_turn.new.desk.broker.entries)) c.loop-i.invariant.same_world step in
+    (round_spends c.args.desk.now.broker.world (scripts_in c.args.endpoints.now.items) c.loop-i.i c.loop-i.endpoints.items _ p q _ _ _ c.loop-i.moved so at moves (sym c.if-is_spent.ensures)).0
 
 pub returns-then-is_spent-clause-round : goal.returns-then-is_spent-clause-round
 returns-then-is_spent-clause-round c =
@@ -42,9 +60,11 @@ returns-then-is_spent-clause-round c =
     let q = c.make_turn.new.endpoint in
     let below : c.loop-i.i < length c.loop-i.endpoints.items = omega (arith, c.loop-i.endpoints.ok.0, c.loop-i.invariant.same_length, c.loop-i-test.true) in
     let at = at_index (scripts_in c.args.endpoints.now.items) c.loop-i.endpoints.items c.loop-i.i p q _ so.stand.behind below c.index_mut-endpoint.ensures.value in
-    let step : IsStep c.args.desk.now.broker.world (numbered c.loop-i.i) p q (reverse c.loop-i.desk.broker.entries) (reverse c.make_turn.new.desk.broker.entries) c.in_ok-moved.field-0 =
-    subst (λ w. IsStep w (numbered c.loop-i.i) p q (reverse c.loop-i.desk.broker.entries) (reverse c.make_turn.new.desk.broker.entries) c.in_ok-moved.field-0) c.loop-i.invariant.same_world c.in_ok-moved.ensures.step in
-    (turn_spends c.args.desk.now.broker.world (scripts_in c.args.endpoints.now.items) c.loop-i.i c.loop-i.endpoints.items _ p q _ _ _ c.loop-i.moved c.in_ok-moved.field-0 so at step (sym c.if-is_spent.ensures)).1
+    let step : IsStep c.loop-i.desk.broker.world (numbered c.loop-i.i) p q (reverse c.loop-i.desk.broker.entries) (reverse c.make_turn.new.desk.broker.entries) true =
+    subst (λ made. IsStep c.loop-i.desk.broker.world (numbered c.loop-i.i) p q (reverse c.loop-i.desk.broker.entries) (reverse c.make_turn.new.desk.broker.entries) made) c.if-not-branch.false c.in_ok-make_turn.ensures.step in
+    let moves : Moves c.args.desk.now.broker.world (numbered c.loop-i.i) p q (reverse c.loop-i.desk.broker.entries) (reverse c.make_turn.new.desk.broker.entries) =
+    subst (λ w. Moves w (numbered c.loop-i.i) p q (reverse c.loop-i.desk.broker.entries) (reverse c.make_turn.new.desk.broker.entries)) c.loop-i.invariant.same_world step in
+    (round_spends c.args.desk.now.broker.world (scripts_in c.args.endpoints.now.items) c.loop-i.i c.loop-i.endpoints.items _ p q _ _ _ c.loop-i.moved so at moves (sym c.if-is_spent.ensures)).1
 
 pub loop-i-preserved : goal.loop-i-preserved
 loop-i-preserved c =
@@ -53,13 +73,15 @@ loop-i-preserved c =
     let q = c.make_turn.new.endpoint in
     let below : c.loop-i.i < length c.loop-i.endpoints.items = omega (arith, c.loop-i.endpoints.ok.0, c.loop-i.invariant.same_length, c.loop-i-test.true) in
     let at = at_index (scripts_in c.args.endpoints.now.items) c.loop-i.endpoints.items c.loop-i.i p q _ so.stand.behind below c.index_mut-endpoint.ensures.value in
-    let step : IsStep c.args.desk.now.broker.world (numbered c.loop-i.i) p q (reverse c.loop-i.desk.broker.entries) (reverse c.make_turn.new.desk.broker.entries) c.in_ok-moved.field-0 =
-    subst (λ w. IsStep w (numbered c.loop-i.i) p q (reverse c.loop-i.desk.broker.entries) (reverse c.make_turn.new.desk.broker.entries) c.in_ok-moved.field-0) c.loop-i.invariant.same_world c.in_ok-moved.ensures.step in
+    let step : IsStep c.loop-i.desk.broker.world (numbered c.loop-i.i) p q (reverse c.loop-i.desk.broker.entries) (reverse c.make_turn.new.desk.broker.entries) true =
+    subst (λ made. IsStep c.loop-i.desk.broker.world (numbered c.loop-i.i) p q (reverse c.loop-i.desk.broker.entries) (reverse c.make_turn.new.desk.broker.entries) made) c.if-not-branch.false c.in_ok-make_turn.ensures.step in
+    let moves : Moves c.args.desk.now.broker.world (numbered c.loop-i.i) p q (reverse c.loop-i.desk.broker.entries) (reverse c.make_turn.new.desk.broker.entries) =
+    subst (λ w. Moves w (numbered c.loop-i.i) p q (reverse c.loop-i.desk.broker.entries) (reverse c.make_turn.new.desk.broker.entries)) c.loop-i.invariant.same_world step in
     record {
       same_length = c.loop-i.invariant.same_length;
-      same_world = c.in_ok-moved.ensures.same_world ∙ c.loop-i.invariant.same_world;
-      less = turn_lessens c.args.desk.now.broker.world (scripts_in c.args.endpoints.now.items) c.loop-i.i c.args.endpoints.now.items c.loop-i.endpoints.items _ p q _ _ _ c.loop-i.moved c.in_ok-moved.field-0 so.stand at step c.loop-i.invariant.less;
-      so_far = turn_made c.args.desk.now.broker.world (scripts_in c.args.endpoints.now.items) c.loop-i.i c.loop-i.endpoints.items _ p q _ _ _ c.loop-i.moved c.in_ok-moved.field-0 so at step (sym c.if-is_spent.ensures);
+      same_world = c.in_ok-make_turn.ensures.same_world ∙ c.loop-i.invariant.same_world;
+      less = moves_lessen c.args.desk.now.broker.world (scripts_in c.args.endpoints.now.items) c.loop-i.i c.args.endpoints.now.items c.loop-i.endpoints.items _ p q _ _ _ c.loop-i.moved so.stand at moves c.loop-i.invariant.less;
+      so_far = round_moves c.args.desk.now.broker.world (scripts_in c.args.endpoints.now.items) c.loop-i.i c.loop-i.endpoints.items _ p q _ _ _ c.loop-i.moved so at moves (sym c.if-is_spent.ensures);
     }
 
 pub returns-then-moved-clause-round : goal.returns-then-moved-clause-round
