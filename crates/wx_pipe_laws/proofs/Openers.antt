@@ -119,7 +119,7 @@ pub opened : (world : WorldLists) (past : List Entry) (h : HostNo) (k : ℕ) →
     → is_for_channel k (work_of past h) ≡ true → IsOpened past k
 opened world [] h k legal is = absurd (false≢true is)
 opened world (e ∷ past) h k legal is =
-    step (slice_get (hosts past) h.0) refl
+    step (slice_get (hosts past) h.0) refl (opened world past h k legal.0)
     (sym (ap (λ o. is_for_channel k (work_in o)) (get_options (hosts past) (starts past e) h.0)) ∙ is)
   where
     new : (b : Bool) → is_for_channel k (work_in (cond b (starts past e) None)) ≡ true → IsOpened (e ∷ past) k
@@ -127,11 +127,11 @@ opened world (e ∷ past) h k legal is =
     new false for = absurd (false≢true for)
 
     step : (o : Option Start) → slice_get (hosts past) h.0 ≡ o
+        → (is_for_channel k (work_of past h) ≡ true → IsOpened past k)
         → is_for_channel k (work_in (option_or o (cond (length (hosts past) == h.0) (starts past e) None))) ≡ true
         → IsOpened (e ∷ past) k
-    step (Some start) at for =
-        opened_later past e k (opened world past h k legal.0 (ap (λ o. is_for_channel k (work_in o)) at ∙ for))
-    step None at for = new (length (hosts past) == h.0) for
+    step (Some start) at before for = opened_later past e k (before (ap (λ o. is_for_channel k (work_in o)) at ∙ for))
+    step None at before for = new (length (hosts past) == h.0) for
 
 -- One host
 
@@ -158,7 +158,7 @@ pub one_host : (past : List Entry) (g h : HostNo) (k : ℕ) → is_for_channel k
     → is_for_channel k (work_of past h) ≡ true → g.0 ≡ h.0
 one_host [] g h k is at = absurd (false≢true is)
 one_host (e ∷ past) g h k is at =
-    step (slice_get (hosts past) g.0) (slice_get (hosts past) h.0) refl refl
+    step (slice_get (hosts past) g.0) (slice_get (hosts past) h.0) refl refl (one_host past g h k)
     (sym (ap (λ o. is_for_channel k (work_in o)) (get_options (hosts past) (starts past e) g.0)) ∙ is)
     (sym (ap (λ o. is_for_channel k (work_in o)) (get_options (hosts past) (starts past e) h.0)) ∙ at)
   where
@@ -177,15 +177,16 @@ one_host (e ∷ past) g h k is at =
         → is_for_channel k (work_of past f) ≡ true
     old f s found for = ap (λ o. is_for_channel k (work_in o)) found ∙ for
 
-    step : (o p : Option Start) → slice_get (hosts past) g.0 ≡ o → slice_get (hosts past) h.0 ≡ p → Works o g.0
-        → Works p h.0 → g.0 ≡ h.0
-    step (Some s) (Some t) a b for too = one_host past g h k (old g s a for) (old h t b too)
-    step None None a b for too = sym (new g.0 (m == g.0) refl for).0 ∙ (new h.0 (m == h.0) refl too).0
-    step (Some s) None a b for too =
+    step : (o p : Option Start) → slice_get (hosts past) g.0 ≡ o → slice_get (hosts past) h.0 ≡ p
+        → (is_for_channel k (work_of past g) ≡ true → is_for_channel k (work_of past h) ≡ true → g.0 ≡ h.0)
+        → Works o g.0 → Works p h.0 → g.0 ≡ h.0
+    step (Some s) (Some t) a b before for too = before (old g s a for) (old h t b too)
+    step None None a b before for too = sym (new g.0 (m == g.0) refl for).0 ∙ (new h.0 (m == h.0) refl too).0
+    step (Some s) None a b before for too =
         let within = host_within past g k (old g s a for) in
         let next = (new h.0 (m == h.0) refl too).1 in
         absurd (omega arith)
-    step None (Some t) a b for too =
+    step None (Some t) a b before for too =
         let within = host_within past h k (old h t b too) in
         let next = (new g.0 (m == g.0) refl for).1 in
         absurd (omega arith)

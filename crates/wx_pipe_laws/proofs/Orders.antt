@@ -60,6 +60,10 @@ messages-append c k (e ∷ xs) ys =
     let new = option_to_list (message_in c k e.who e.call e.answer) in
     ap (λ l. new ++ l) (messages-append c k xs ys) ∙ sym (append_assoc new (messages_taken c k xs) (messages_taken c k ys))
 
+no_event : (call : Call) (answer : Answer) → event_in call answer false ≡ []
+no_event Take (Told event) = refl
+no_event _ _ = refl
+
 message_is : (c : ContextNo) (k : ℕ) (who : Who) (call : Call) (answer : Answer)
     → option_to_list (message_in c k who call answer) ≡ messages k (event_in call answer (is_by who c))
 message_is c k (ByContext b) Take (Told event) = parts (b.0 == c.0) (is_message k event.kind) refl
@@ -69,6 +73,7 @@ message_is c k (ByContext b) Take (Told event) = parts (b.0 == c.0) (is_message 
     parts true true is = rw is refl
     parts true false is = rw is refl
     parts false of is = refl
+message_is c k (ByHost h) call answer = ap (messages k) (sym (no_event call answer))
 message_is c k _ _ _ = refl
 
 of_both : (k : ℕ) (xs ys : List Event) → messages k (xs ++ ys) ≡ messages k xs ++ messages k ys

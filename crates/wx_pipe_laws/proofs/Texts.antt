@@ -44,7 +44,7 @@ use Rattle.wx_pipe_laws.proofs.Openers.{work_later, one_host}
 
 -- Texts of entries
 
-parts_of : (o p : Option (List ℕ)) (us vs : List (Option (List ℕ))) → o ∷ us ≡ p ∷ vs → (o ≡ p) × (us ≡ vs)
+pub parts_of : (o p : Option (List ℕ)) (us vs : List (Option (List ℕ))) → o ∷ us ≡ p ∷ vs → (o ≡ p) × (us ≡ vs)
 parts_of o p us vs is = (cc, cc)
 
 texts_later : (past : List Entry) (e : Entry) (ns : List EntryNo) (ts : List (List ℕ)) → texts past ns ≡ map Some ts
@@ -97,6 +97,7 @@ posts_by : (c b : ContextNo) (live closed long : Bool) (end : End) → AtEnd c b
 posts_by c b false closed long end at is = absurd cc
 posts_by c b true closed long Neither nowhere is = absurd cc
 posts_by c b true closed long Opener (opens_it same) is = same
+posts_by c b true closed long Receiver at is = elim at [ ]
 
 one_post : (world : WorldLists) (past : List Entry) (c : ContextNo) (k : ℕ) (e : Entry) (who : Who) (call : Call)
     (answer : Answer) → IsNative past c k → answer ≡ answer_after world past who call → text_in e.call ≡ text_in call
@@ -152,22 +153,38 @@ pub record AreTexts (past : List Entry) (ns : List EntryNo) (ts : List (List ℕ
   pub are : texts past ns ≡ map Some ts
   pub short : AllShort ts
 
+no_texts : (past : List Entry) (ns : List EntryNo) (ts : List (List ℕ)) → ns ≡ [] → ts ≡ [] → AreTexts past ns ts
+no_texts past ns ts none nothing = record { are = ap (texts past) none ∙ ap (map Some) (sym nothing); short = subst AllShort (sym nothing) tt }
+
+not_its : (call : Call) (answer : Answer) → text_taken call answer false ≡ []
+not_its HostTake (HasText n) = refl
+not_its _ _ = refl
+
+other_call : (past : List Entry) (e : Entry) (call : Call) (answer : Answer) (m : Bool) → text_taken call answer true ≡ []
+    → text_of_take past call answer ≡ []
+    → AreTexts (e ∷ past) (text_taken call answer m) (cond m (text_of_take past call answer) [])
+other_call past e call answer true none nothing = no_texts (e ∷ past) (text_taken call answer true) (text_of_take past call answer) none nothing
+other_call past e call answer false none nothing = no_texts (e ∷ past) (text_taken call answer false) [] (not_its call answer) refl
+
 one_taken : (world : WorldLists) (past : List Entry) (h : HostNo) (e : Entry) (who : Who) (call : Call) (answer : Answer)
     → IsLegalPast world past → answer ≡ answer_after world past who call
-    → AreTexts (e ∷ past) (text_taken call answer (is_by_host who h)) (cond (is_by_host who h) (text_of_take past call answer) [])
+    → AreTexts (e ∷ past) (text_taken call answer (is_by_host who h))
+    (cond (is_by_host who h) (text_of_take past call answer) [])
+one_taken world past h e (ByContext b) call answer legal answered =
+    no_texts (e ∷ past) (text_taken call answer false) [] (not_its call answer) refl
 one_taken world past h e (ByHost g) HostTake (HasText n) legal answered = parts (g.0 == h.0)
   where
-    parts : (m : Bool) → AreTexts (e ∷ past) (text_taken HostTake (HasText n) m) (cond m (option_to_list (text_of past n)) [])
+    parts : (m : Bool) → AreTexts (e ∷ past) (text_taken HostTake (HasText n) m)
+        (cond m (option_to_list (text_of past n)) [])
     parts false = record { are = refl; short = tt }
     parts true =
         let s = taken_short world past g n legal answered in
         let P : Option (List ℕ) → Type 0 = λ o. AreTexts (e ∷ past) (n ∷ []) (option_to_list o) in
-        subst P (sym s.carried) (record { are = ap (λ o. o ∷ []) (text_stays (e ∷ []) past n s.text s.carried); short = (s.short, tt) })
-one_taken world past h e who call answer legal answered = parts (is_by_host who h)
-  where
-    parts : (m : Bool) → AreTexts (e ∷ past) (text_taken call answer m) (cond m (text_of_take past call answer) [])
-    parts false = record { are = refl; short = tt }
-    parts true = record { are = refl; short = tt }
+        subst P (sym s.carried) (record {
+          are = ap (λ o. o ∷ []) (text_stays (e ∷ []) past n s.text s.carried);
+          short = (s.short, tt);
+        })
+one_taken world past h e (ByHost g) call answer legal answered = other_call past e call answer (g.0 == h.0) refl refl
 
 both_texts : (past : List Entry) (ns ms : List EntryNo) (ts us : List (List ℕ)) → AreTexts past ns ts → AreTexts past ms us
     → AreTexts past (ns ++ ms) (ts ++ us)
@@ -225,15 +242,16 @@ data Adds (closed : Bool) : List (List ℕ) → List (List ℕ) → Type 0 where
   to_both : {ts : List (List ℕ)} → closed ≡ false → Adds closed ts ts
   to_said : {ts : List (List ℕ)} → (closed ≡ false → ts ≡ []) → Adds closed [] ts
 
-none_said : (b : Bool) → cond b [] [] ≡ ([] : List (List ℕ))
-none_said true = refl
-none_said false = refl
+in_both : (b : Bool) (ts : List (List ℕ)) → cond b ts ts ≡ ts
+in_both true ts = refl
+in_both false ts = refl
 
 not_across : (c b : ContextNo) (end : End) (m : Bool) → AtEnd c b end → (m && are_across end Opener) ≡ false
 not_across c b Neither true nowhere = refl
 not_across c b Opener true (opens_it same) = refl
 not_across c b Neither false nowhere = refl
 not_across c b Opener false (opens_it same) = refl
+not_across c b Receiver m at = elim at [ ]
 
 -- a host was started that makes a call
 is_started : (past : List Entry) (g : HostNo) (text : List ℕ) → may_make past (ByHost g) (HostSaid text) ≡ true
@@ -291,7 +309,7 @@ entry_adds world past c h k (ByHost g) (HostSaid text) Passed native so may answ
 entry_adds world past c h k (ByHost g) (HostSaid text) answer native so may answered =
     said_unheard past g h k text answer so may answered (λ is. cc)
 entry_adds world past c h k (ByHost g) (Post j text) Posted native so may answered = absurd cc
-entry_adds world past c h k who call answer native so may answered = to_said (λ on. none_said (is_by_host who h))
+entry_adds world past c h k who call answer native so may answered = to_said (λ on. in_both (is_by_host who h) [])
 
 -- What was given to the opener is the first of what the host said, and all of it while the channel is open.
 pub record IsGiven (past : List Entry) (h : HostNo) (k : ℕ) : Type 0 where
@@ -306,13 +324,13 @@ given_more : (past : List Entry) (e : Entry) (h : HostNo) (k : ℕ) (given said 
     → Adds (is_closed past k) given said
     → given_texts (e ∷ past) k Opener ≡ given_texts past k Opener ++ given → said_by h (e ∷ past) ≡ said_by h past ++ said
     → IsGiven (e ∷ past) h k
-given_more past e h k ts ts so (to_both on) g s =
+given_more past e h k given ts so (to_both on) g s =
     let same : given_texts past k Opener ++ ts ≡ said_by h past ++ ts = ap (λ l. l ++ ts) (so.all on) in
     record {
       first = ([], s ∙ sym same ∙ sym g ∙ sym (append-nil (given_texts (e ∷ past) k Opener)));
       all = λ now. g ∙ same ∙ sym s;
     }
-given_more past e h k [] ts so (to_said none) g s =
+given_more past e h k given ts so (to_said none) g s =
     let old = given_texts past k Opener in
     let was = g ∙ append-nil old in
     let more : said_by h past ++ ts ≡ old ++ (so.first.0 ++ ts) = ap (λ l. l ++ ts) so.first.1
