@@ -1,1 +1,2 @@
-mod ServeLemmas
+pub mod ServeLemmas
+pub mod EndLemmas

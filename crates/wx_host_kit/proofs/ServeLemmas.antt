@@ -1,5 +1,5 @@
 -- Serving, frame by frame and piece by piece.
-use Rattle.std.proofs.Common.{◌≡◌, ℕ, ◌+◌, ◌<◌, ◌≤◌, ◌==◌, zero, suc, Bool, true, false, List, [], ◌∷◌, ◌++◌, length, drop, Option, Some, None, refl, ap, ◌∙◌, sym, subst, arith, append_assoc, length-drop, drop-drop, drop_of_length-le}
+use Rattle.std.proofs.Common.{◌≡◌, ℕ, ◌+◌, ◌<◌, ◌≤◌, ◌==◌, zero, suc, Bool, true, false, List, [], ◌∷◌, ◌++◌, length, take, drop, Option, Some, None, refl, ap, ◌∙◌, sym, subst, arith, append_assoc, length-drop, drop-drop, drop_of_length-le, take-append-drop}
 use Rattle.std.specs.Prelude.{IfSome, MatchOption}
 use Rattle.std.specs.Option.{option_to_list}
 use Rattle.std.proofs.lemmas.List.{append-nil, take_all}
@@ -11,7 +11,10 @@ use Rattle.wx_native_frame.proofs.Lengths.{append_take-drop}
 use Rattle.wx_native_frame.proofs.FrameLaws.{short_under_way}
 use Rattle.wx_native_frame.proofs.SplitLaws.{split_nothing, split_frame}
 use Rattle.wx_outside.specs.Sink.{added}
-use Rattle.wx_host_launch.specs.Pipes.{Stream, InState, OutState, Gives}
+use Rattle.wx_host_launch.specs.Pipes.{InState, OutState, Gives}
+use Rattle.wx_host_launch.proofs.PipeLemmas.{added_twice}
+use Rattle.wx_host_launch.proofs.ReadingLemmas.{gives_nothing, gives_more}
+use Rattle.wx_host_launch.proofs.TurnLemmas.{added_nothing}
 use Rattle.wx_host_kit.specs.declared.KitEnd.{KitEnd}
 use Rattle.wx_host_kit.specs.declared.KitEnd.TheVariants.{Exited, TooLong, BadJson, Cut, ReplyTooLong, ReadFailed, WriteFailed, NoMemory}
 use Rattle.wx_host_kit.specs.Kit.{Reply, replies, longest_read, longest_reply, IsKitEnd, IsServed}
@@ -35,8 +38,7 @@ replies_more reply [] t = append-nil (option_to_list (reply t))
 replies_more reply (u ∷ us) t = ap (λ x. option_to_list (reply u) ++ x) (replies_more reply us t) ∙ sym (append_assoc (option_to_list (reply u)) (replies reply us) (option_to_list (reply t)))
 
 sent_more : (s m n : Option (List ℕ)) (a b : List ℕ) → m ≡ added s a → n ≡ added m b → n ≡ added s (a ++ b)
-sent_more None m n a b is to = to ∙ ap (λ x. added x b) is
-sent_more (Some s) m n a b is to = to ∙ ap (λ x. added x b) is ∙ ap Some (append_assoc s a b)
+sent_more s m n a b is to = to ∙ ap (λ x. added x b) is ∙ added_twice s a b
 
 -- A frame of a piece
 
@@ -155,22 +157,6 @@ within_all reply other start reader piece at first now w le bytes before so =
 
 -- Piece by piece
 
-given_more : (a b c : Option Stream) (x y : List ℕ) → Gives a b x → Gives b c y → Gives a c (x ++ y)
-given_more None None None x y g h = tt
-given_more (Some a) (Some b) (Some c) x y g h = record { read = h.read ∙ ap (λ r. r ++ y) g.read ∙ append_assoc a.read x y; coming = g.coming ∙ ap (λ r. x ++ r) h.coming ∙ sym (append_assoc x y c.coming) }
-given_more None None (Some c) x y g h = absurd h
-given_more None (Some b) c x y g h = absurd g
-given_more (Some a) None c x y g h = absurd g
-given_more (Some a) (Some b) None x y g h = absurd h
-
-given_none : (s : Option Stream) → Gives s s []
-given_none None = tt
-given_none (Some s) = record { read = sym (append-nil s.read); coming = refl }
-
--- an input that did not move gave nothing
-pub given_same : (a b : Option Stream) → b ≡ a → Gives a b []
-given_same a b e = let P : Option Stream → Type 0 = λ s. Gives a s [] in subst P (sym e) (given_none a)
-
 -- an end behind all that was read
 pub served : (reply : Reply) (reader : Unfinished) (old mid new : OutState) (before now : InState) (end : KitEnd) → ReadsOn reply reader old mid before now → Gives mid.stream new.stream [] → IsKitEnd reply reader.bytes [] old new before now end → IsServed reply old new before now end
 served reply reader old mid new before now end so given why =
@@ -178,7 +164,7 @@ served reply reader old mid new before now end so given why =
     let over = over_at_hand reply so.bytes reader.bytes old new before now end so.serving why in
     record {
       bytes = so.bytes;
-      given = subst G (append-nil so.bytes) (given_more old.stream mid.stream new.stream so.bytes [] so.given given);
+      given = subst G (append-nil so.bytes) (gives_more old.stream mid.stream new.stream so.bytes [] so.given given);
       texts = over.texts;
       rest = over.rest;
       answered = over.answered;
@@ -213,7 +199,7 @@ piece_read reply reader after piece old mid new before now later r so given le e
     }
 
     all_given : Gives old.stream new.stream (so.bytes ++ piece)
-    all_given = given_more old.stream mid.stream new.stream so.bytes piece so.given given
+    all_given = gives_more old.stream mid.stream new.stream so.bytes piece so.given given
 
     by_end : (r : Option KitEnd) → MatchOption r (IsUnderWay after.bytes longest_read × IsServing reply (so.bytes ++ piece) after.bytes before later) (λ end. (old new : OutState) → IsOver reply (so.bytes ++ piece) old new before later end) → MatchOption r (ReadsOn reply after old new before later) (IsServed reply old new before later)
     by_end None (under_way, serving) = let a = so.later in record { limit = limit; under_way = under_way; bytes = so.bytes ++ piece; given = all_given; serving = serving; later = omega arith; same_end = ended ∙ so.same_end }
@@ -226,15 +212,11 @@ begins reply reader old before is none =
       limit = is;
       under_way = nothing_under_way reader.bytes none;
       bytes = [];
-      given = given_none old.stream;
-      serving = record { texts = []; answered = record { bytes_are = sym none; texts_fit = tt; replies_fit = tt }; sent = sent_none before.sent; later = omega arith };
+      given = gives_nothing old.stream;
+      serving = record { texts = []; answered = record { bytes_are = sym none; texts_fit = tt; replies_fit = tt }; sent = added_nothing before.sent; later = omega arith };
       later = omega arith;
       same_end = refl;
     }
-  where
-    sent_none : (s : Option (List ℕ)) → s ≡ added s []
-    sent_none None = refl
-    sent_none (Some s) = ap Some (sym (append-nil s))
 
 -- the same under another name of the handler's meaning
 pub once_more : (reply other : Reply) (reader after : Unfinished) (old mid new : OutState) (before now later : InState) (r : Option KitEnd) → other ≡ reply → ReadsOn reply reader old mid before now → ((old : OutState) (before : InState) → ReadsOn other reader old mid before now → MatchOption r (ReadsOn other after old new before later) (IsServed other old new before later)) → MatchOption r (ReadsOn reply after old new before later) (IsServed reply old new before later)
@@ -263,16 +245,38 @@ no_part reply rest part old new before now ReadFailed h n = h.0
 no_part reply rest part old new before now WriteFailed h n = absurd (n refl)
 no_part reply rest part old new before now NoMemory h n = h
 
+-- the part of a frame that the echo wrote is a front of the rest that it read
+part_front : (rest part : List ℕ) (old new : OutState) (before now : InState) (end : KitEnd)
+    → IsKitEnd echo rest part old new before now end → (behind : List ℕ) × (rest ≡ part ++ behind)
+part_front rest part old new before now WriteFailed (rose, (next, at, short, (n, is))) =
+    let same : at.text ≡ next = cc in
+    let whole : rest ≡ take n (frame next) ++ (drop n (frame next) ++ at.behind) = at.rest_is
+        ∙ ap (λ t. frame t ++ at.behind) same ∙ ap (λ x. x ++ at.behind) (sym (take-append-drop n (frame next)))
+        ∙ append_assoc (take n (frame next)) (drop n (frame next)) at.behind in
+    (drop n (frame next) ++ at.behind, whole ∙ ap (λ x. x ++ (drop n (frame next) ++ at.behind)) (sym is))
+part_front rest part old new before now Exited h = (rest, ap (λ x. x ++ rest) (sym h.0))
+part_front rest part old new before now (TooLong len) h = (rest, ap (λ x. x ++ rest) (sym h.0))
+part_front rest part old new before now (BadJson f) h = (rest, ap (λ x. x ++ rest) (sym h.0))
+part_front rest part old new before now (Cut have) h = (rest, ap (λ x. x ++ rest) (sym h.0))
+part_front rest part old new before now (ReplyTooLong len) h = (rest, ap (λ x. x ++ rest) (sym h.0))
+part_front rest part old new before now ReadFailed h = (rest, ap (λ x. x ++ rest) (sym h.0))
+part_front rest part old new before now NoMemory h = (rest, ap (λ x. x ++ rest) (sym h))
+
 -- what a kit wrote that serves by the echo
 pub echoed : EchoLaw
-echoed old new before now end h = record {
-  bytes = h.bytes;
-  given = h.given;
-  texts = h.texts;
-  rest = h.rest;
-  read = h.answered.bytes_are;
-  fit = h.answered.texts_fit;
-  part = h.part;
-  sent = h.sent ∙ ap (λ ts. added before.sent (frames ts ++ h.part)) (echo_replies h.texts);
-  whole = no_part echo h.rest h.part old new before now end h.cause;
-}
+echoed old new before now end h =
+    let front = part_front h.rest h.part old new before now end h.cause in
+    record {
+      bytes = h.bytes;
+      given = h.given;
+      texts = h.texts;
+      rest = h.rest;
+      read = h.answered.bytes_are;
+      fit = h.answered.texts_fit;
+      part = h.part;
+      sent = h.sent ∙ ap (λ ts. added before.sent (frames ts ++ h.part)) (echo_replies h.texts);
+      whole = no_part echo h.rest h.part old new before now end h.cause;
+      behind = front.0;
+      front = h.answered.bytes_are ∙ ap (λ x. frames h.texts ++ x) front.1
+          ∙ sym (append_assoc (frames h.texts) h.part front.0);
+    }

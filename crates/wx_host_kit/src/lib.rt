@@ -11,7 +11,7 @@ mod streams;
 
 pub use handler::{Echo, Handler};
 pub use host_call::{is_host_call, wx_as_host};
-pub use laws::echo_law;
+pub use laws::{echo_law, one_end};
 pub use serve::serve_kit;
 pub use streams::{StreamInput, StreamOutput};
 pub use wx_host_launch::{Failed, HostIn, HostOut};

@@ -171,7 +171,7 @@ pub record ReadSoFar (start now : Unfinished) (old new : OutState) : Type 0 wher
 pub begins : (start : Unfinished) (output : OutState) → start.limit ≡ LONGEST_SAID → ReadSoFar start start output output
 begins start output is = record { bytes = []; given = gives_nothing output.stream; later = omega arith; limit = is; bytes_are = sym (append-nil start.bytes) }
 
-gives_more : (a b c : Option Stream) (x y : List ℕ) → Gives a b x → Gives b c y → Gives a c (x ++ y)
+pub gives_more : (a b c : Option Stream) (x y : List ℕ) → Gives a b x → Gives b c y → Gives a c (x ++ y)
 gives_more None None None x y g h = tt
 gives_more (Some a) (Some b) (Some c) x y g h = record { read = h.read ∙ ap (λ r. r ++ y) g.read ∙ append_assoc a.read x y; coming = g.coming ∙ ap (λ r. x ++ r) h.coming ∙ sym (append_assoc x y c.coming) }
 gives_more None None (Some c) x y g h = absurd h

@@ -78,7 +78,7 @@ in_half old new before now refused bytes calls taken said s sent sends ends =
       ready = s.each;
     }
 
-added_nothing : (sent : Option (List ℕ)) → sent ≡ added sent []
+pub added_nothing : (sent : Option (List ℕ)) → sent ≡ added sent []
 added_nothing None = refl
 added_nothing (Some s) = ap Some (sym (append-nil s))
 

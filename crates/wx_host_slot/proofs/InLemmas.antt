@@ -25,6 +25,7 @@ use Rattle.wx_host_launch.specs.Records.{Program, Account, HostRecord, Writing, 
 use Rattle.wx_host_launch.specs.Turns.{IsInTurn}
 use Rattle.wx_host_launch.specs.declared.turns.InTurn.TheVariants as into
 use Rattle.wx_host_launch.proofs.HostLemmas.{HasShortText, taken_short}
+use Rattle.wx_host_launch.proofs.TurnLemmas.{added_nothing}
 use Rattle.wx_host_slot.specs.Journals.{taken_by, said_by, program_of}
 use Rattle.wx_host_slot.specs.Meets.{IsHeard, MeetsAccount, ToldAccount, MeetsStarted}
 use Rattle.wx_host_slot.specs.Slots.{ChildState, SlotState, closing_record, PipesTold, IsStartedRecord, Runs, StandsRunning, Stands, IsServed}
@@ -114,16 +115,12 @@ in_moved writing world past h slot child old new input at legal s run room turn 
     let whole = sent_whole (Rose child.input.faults input.faults) (texts_of_takes (past_of new) turn.half.more) turn.half.bytes (ends_by_write (calls_in turn.half.more) || false) turn.half.frames (ap (λ cs. ends_by_write cs || false) calls) in
     took_on writing world past h slot child input (HasText n) turn.half.bytes new now ready s run room turn.half.sent (whole ∙ ap frames texts)
 
-added_none : (sent : Option (List ℕ)) → sent ≡ added sent []
-added_none None = refl
-added_none (Some s) = ap Some (sym (append-nil s))
-
 pub in_closed : (writing : Option Writing) (world : WorldLists) (past : List Entry) (h : HostNo) (slot : SlotState) (child : ChildState) (old new : HostDeskState) (input : InState) → IsAt h world past old → Stands writing world past h slot → StandsRunning writing world past h slot child → slot.made < 65536
     → IsInTurn old new child.input input into.Closed → Leads writing world h past slot (after_turn_of slot (with_input child input) 1 false) new Moved
 in_closed writing world past h slot child old new input at s run room turn =
     let (takes, closed) = turn.came in
     let (now, ready) = takes_at h world past old new NoMore at takes in
-    took_on writing world past h slot child input NoMore [] new now ready s run room (ap (λ (i : InState). i.sent) closed ∙ added_none child.input.sent) refl
+    took_on writing world past h slot child input NoMore [] new now ready s run room (ap (λ (i : InState). i.sent) closed ∙ added_nothing child.input.sent) refl
 
 pub in_waits : (writing : Option Writing) (world : WorldLists) (past : List Entry) (h : HostNo) (slot : SlotState) (child : ChildState) (old new : HostDeskState) (input : InState) → IsAt h world past old → Stands writing world past h slot → StandsRunning writing world past h slot child
     → IsInTurn old new child.input input into.Waits → Leads writing world h past slot (record slot { child = Some (with_input child input) }) new Rested

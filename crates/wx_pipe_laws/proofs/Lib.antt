@@ -1,0 +1,5 @@
+mod Orders
+mod Openers
+mod Texts
+mod Bytes
+mod Echo
