@@ -14,7 +14,6 @@ use std::alloc::Global;
 use wx_broker::Broker;
 use wx_context::Context;
 use wx_desk::BrokerDesk;
-use wx_endpoint::Cursor;
 use wx_id::{ContextNo, NoMemory};
 use wx_script::{Act, Command, Scene, SceneEndpoint};
 
@@ -53,8 +52,7 @@ fn open_one<'a>(
     ensures same_world { OnOk result (desk.new.broker.world ≡ desk.old.broker.world) }
 {
     desk.context = enter(&mut desk.broker, &endpoint.context)?;
-    let cursor = Cursor::new(alloc, &endpoint.script)?;
-    let mut opened = Endpoint::new(cursor);
+    let mut opened = Endpoint::new(alloc, &endpoint.script)?;
     if begins_with_listen(endpoint.script.commands()) {
         make_turn(&mut opened, desk)?;
     }

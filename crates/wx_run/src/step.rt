@@ -3,13 +3,15 @@ ghost use Rattle.std.specs.Prelude.{◌≡◌, ◌<◌, true, IfOk, reverse};
 ghost use Rattle.wx_machine.specs.Contexts.{contexts};
 ghost use Rattle.wx_script.specs.Places.{is_left, next_at};
 ghost use Rattle.wx_script.specs.Ends.{is_idle};
-ghost use Rattle.wx_run.specs.Cursors.{is_spent_at};
+ghost use Rattle.wx_run.specs.Cursors.{cursor_at_start, is_spent_at};
 ghost use Rattle.wx_run.specs.Step.{IsReady, IsStep};
 
+use std::alloc::Global;
 use std::marker::Model;
 use wx_desk::BrokerDesk;
 use wx_endpoint::{Cursor, Turned, turn};
 use wx_id::NoMemory;
+use wx_script::Script;
 
 /// An endpoint of the rounds. Contracts see its cursor.
 #[derive(Drop)]
@@ -32,14 +34,14 @@ impl<'a> Model for Endpoint<'a> {
 }
 
 impl<'a> Endpoint<'a> {
-    /// The endpoint with this cursor; it has not rested.
-    pub fn new(cursor: Cursor<'a>) -> Endpoint<'a>
-        ensures { result ≡ cursor.entry }
+    /// The endpoint behind its `enter`.
+    pub fn new(alloc: Global, script: &'a Script) -> Result<Endpoint<'a>, NoMemory>
+        ensures { IfOk result (λ endpoint. endpoint ≡ cursor_at_start script.now) }
     {
-        Endpoint {
-            cursor,
+        Ok(Endpoint {
+            cursor: Cursor::new(alloc, script)?,
             rests: false,
-        }
+        })
     }
 
     /// Whether it stands behind its `leave`.

@@ -1,4 +1,4 @@
-use Rattle.std.proofs.Common.{◌≡◌, ◌∙◌, ◌<◌, length, arith, sym, subst, refl}
+use Rattle.std.proofs.Common.{◌≡◌, ◌∙◌, ◌<◌, true, length, arith, sym, subst, refl}
 use Rattle.std.specs.Prelude.{reverse}
 use Rattle.wx_script.specs.Ends.{numbered}
 use Rattle.wx_run.specs.Cursors.{scripts_in}
