@@ -53,21 +53,28 @@ fn talk(
     }
 }
 
-/// Two pages come in and talk: what the hub took, and the journal. None where memory was refused.
-fn meet(alloc: Global, text: JsonText) -> Option<(JsonText, Journal)> {
-    let mut broker = Broker::new(alloc, World::new(alloc));
+/// Two pages come in and talk: what the hub took. None where memory was refused.
+fn meet(broker: &mut Broker, alloc: Global, text: JsonText) -> Option<JsonText> {
     let hub = broker.enter(page(alloc, "/hub")?).ok()?;
     let popup = broker.enter(page(alloc, "/popup")?).ok()?;
     let name = Utf8Text::new(alloc, "").ok()?;
-    let entry = talk(&mut broker, hub, popup, name, text)?;
-    let taken = broker.journal().text_of(entry)?.try_clone().ok()?;
-    Some((taken, broker.into_journal()))
+    let entry = talk(broker, hub, popup, name, text)?;
+    broker.journal().text_of(entry)?.try_clone().ok()
+}
+
+/// What the hub took, and the journal. None where memory was refused. The broker ends as its journal on each way out,
+/// which is proved with the broker: to drop it here would be to prove the drops of all its parts once more.
+fn meeting(alloc: Global, text: JsonText) -> Option<(JsonText, Journal)> {
+    let mut broker = Broker::new(alloc, World::new(alloc));
+    let taken = meet(&mut broker, alloc, text);
+    let journal = broker.into_journal();
+    Some((taken?, journal))
 }
 
 fn main(rt: HostRuntime) -> io::Result<()> {
     let alloc = rt.alloc();
     let text = JsonText::new(Vec::from_slice(alloc, b"{\"from\":\"popup\"}")?);
-    let Some((taken, journal)) = text.ok().and_then(|text| meet(alloc, text)) else {
+    let Some((taken, journal)) = text.ok().and_then(|text| meeting(alloc, text)) else {
         return eprintln!(rt; "no memory");
     };
     let mut out = rt.stdout();
