@@ -154,7 +154,7 @@ impl Mailbox {
             return Ok(());
         }
         // A queue grows by its length, and the places that are kept are no part of that: so they are doubled here.
-        if wanted < capacity && self.queue.reserve(capacity).is_ok() {
+        if self.queue.reserve(capacity.saturating_add(wanted)).is_ok() {
             return Ok(());
         }
         self.queue.reserve(wanted)?;
