@@ -1,11 +1,11 @@
 -- The starters that the slots leave.
-use Rattle.std.proofs.Common.{◌≡◌, ℕ, ◌+◌, ◌-◌, ◌^◌, ◌≤◌, ◌<◌, length, map, arith, List, [], ◌∷◌, ◌++◌, refl, sym, ap, ◌∙◌, subst, append_assoc, append-nil}
+use Rattle.std.proofs.Common.{◌≡◌, ℕ, ◌+◌, ◌-◌, ◌^◌, ◌≤◌, ◌<◌, length, map, arith, List, [], ◌∷◌, refl, sym, ap, ◌∙◌, subst, append_assoc, append-nil}
 use Rattle.std.specs.declared.option.Option.{Option}
 use Rattle.std.specs.Prelude.{min}
 use Rattle.std.proofs.Math.Nat.{min-eq_left, min-le_right}
 use Rattle.wx_external.specs.World.{WorldLists}
 use Rattle.wx_machine.specs.declared.entries.Entry.{Entry}
-use Rattle.wx_host_launch.specs.Records.{HostRecord, Writing, StarterState, plus, faults_in, faults_of, taking_over}
+use Rattle.wx_host_launch.specs.Records.{Writing, StarterState, plus, faults_in, faults_of, taking_over}
 use Rattle.wx_host_slot.specs.Slots.{SlotState, closing_record, closing_starter}
 use Rattle.wx_run.specs.Hosts.{with_faults, with_records}
 use Rattle.wx_run.specs.Slots.{SlotsStand, keeping, absorbing}

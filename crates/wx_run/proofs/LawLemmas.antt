@@ -4,7 +4,7 @@ use Rattle.std.specs.declared.option.Option.{Option}
 use Rattle.std.specs.Prelude.{slice_get, not, ◌&&◌, nat_le}
 use Rattle.wx_id.specs.declared.numbers.HostNo.{HostNo}
 use Rattle.wx_machine.specs.declared.entries.Entry.{Entry}
-use Rattle.wx_machine.specs.Words.{has_ended, hosts}
+use Rattle.wx_machine.specs.Words.{has_ended}
 use Rattle.wx_host_slot.specs.Journals.{entries_of}
 use Rattle.wx_host_slot.specs.Slots.{host_limit}
 use Rattle.wx_script.specs.declared.script.Command.{Command}

@@ -1,5 +1,5 @@
 -- An endpoint that waits, or has ended, can do nothing until an event is pending for it.
-use Rattle.std.proofs.Common.{◌≡◌, Bool, true, false, List, [], ◌∷◌, Some, None, refl, sym, ap, ◌∙◌, subst}
+use Rattle.std.proofs.Common.{◌≡◌, true, false, List, [], ◌∷◌, Some, None, refl, sym, ap, ◌∙◌}
 use Rattle.std.specs.Prelude.{Option, All, not}
 use Rattle.wx_id.specs.declared.numbers.ContextNo.{ContextNo}
 use Rattle.wx_machine.specs.declared.entries.Entry.{Entry}
@@ -9,7 +9,7 @@ use Rattle.wx_script.specs.Places.{Variables, Place, outside, within, left, unbe
 use Rattle.wx_script.specs.Ends.{is_idle}
 use Rattle.wx_desk.specs.Desks.{ContextDeskState, past_of, IsSound}
 use Rattle.wx_endpoint.specs.Turn.{CursorState, StandsBehind}
-use Rattle.wx_endpoint.specs.Performed.{CarriesText, HasText}
+use Rattle.wx_endpoint.specs.Performed.{HasText}
 use Rattle.wx_endpoint.proofs.TextLemmas.{CameWithText, HasNoGap, place_whole, begun_text}
 use Rattle.wx_run.specs.Step.{IsIdleUnlessPending}
 

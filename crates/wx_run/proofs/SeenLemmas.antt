@@ -1,15 +1,13 @@
 -- The history of a context is the journal itself, with its own entries marked.
 use Rattle.std.proofs.Common.{◌≡◌, ◌+◌, cond, true, false, List, [], ◌∷◌, Some, refl, sym, ap, ◌∙◌, subst}
 use Rattle.std.specs.Prelude.{slice_get}
-use Rattle.std.proofs.lemmas.Bool.{eqb-true}
 use Rattle.wx_id.specs.declared.numbers.ContextNo.{ContextNo}
-use Rattle.wx_machine.specs.declared.entries.Who.{Who}
 use Rattle.wx_machine.specs.declared.entries.Entry.{Entry}
 use Rattle.wx_machine.specs.Words.{is_by}
-use Rattle.wx_machine.specs.declared.entries.Who.TheVariants.{Context as ByContext, Host as ByHost}
+use Rattle.wx_machine.specs.declared.entries.Who.TheVariants.{Context as ByContext}
 use Rattle.wx_script.specs.declared.script.Command.{Command}
 use Rattle.wx_script.specs.Places.{behind_entry, place_of, next_at, next_of}
-use Rattle.wx_script.specs.Carries.{MayCome, IsAskedOf, AskedOf}
+use Rattle.wx_script.specs.Carries.{MayCome}
 use Rattle.wx_script.specs.Ends.{entries_by}
 use Rattle.wx_desk.specs.History.{seen_by, own_in}
 use Rattle.wx_endpoint.specs.History.{place_in, MayStand, CarriesOn}
