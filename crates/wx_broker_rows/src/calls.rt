@@ -273,3 +273,9 @@ pub fn play(rt: &impl Abort, alloc: Global, world: World, name: &str, rows: &[Ro
     }
     broker
 }
+
+/// Ends the broker as its journal, which is proved with the broker: to drop it here would be to prove the drops of all
+/// its parts once more.
+pub fn end(broker: Broker) {
+    let _ = broker.into_journal();
+}

@@ -4,7 +4,7 @@ use crate::calls::Step::{
     Post, SendNative, Take,
 };
 use crate::calls::Want::{Is, Told};
-use crate::calls::{CHANNEL, REQUEST, Row, Step, make, play, world_of_hosts};
+use crate::calls::{CHANNEL, REQUEST, Row, Step, end, make, play, world_of_hosts};
 use crate::values::A;
 use std::process::Abort;
 use std::test::Fail;
@@ -136,6 +136,7 @@ fn worked_examples(rt: HostRuntime) -> Result<(), Fail> {
         let told = [broker.said_closed(HostNo(0)), broker.said_closed(HostNo(1))];
         assert_eq!(rt; told, *said_closed, "{name}");
         assert_eq!(rt; broker.host_ready(HostNo(0)), *ready, "{name}");
+        end(broker);
     }
     Ok(())
 }
@@ -151,6 +152,10 @@ const READY: [(bool, Step, Answer); 3] = [
 /// the end.
 #[test]
 fn hosts_take_their_own(rt: HostRuntime) -> Result<(), Fail> {
+    let view = HostView {
+        manifest: 1,
+        caller: ExtensionId::read(A)?,
+    };
     let world = world_of_hosts(rt.alloc())?;
     let name = "hosts take their own";
     let mut broker = play(&rt, rt.alloc(), world, name, HOSTS_TAKE_THEIR_OWN);
@@ -160,14 +165,11 @@ fn hosts_take_their_own(rt: HostRuntime) -> Result<(), Fail> {
         assert_eq!(rt; broker.host_ready(h), ready);
         assert_eq!(rt; make(&mut broker, rt.alloc(), 0, &step), Some(answer));
     }
-    let view = HostView {
-        manifest: 1,
-        caller: ExtensionId::read(A)?,
-    };
     for (h, told) in [(0, Some(view)), (1, Some(view)), (2, None)] {
         assert_eq!(rt; broker.host(HostNo(h)), told, "host {h}");
     }
     assert_eq!(rt; broker.hosts(), 2);
     assert!(rt; broker.reserve(7).is_ok() && broker.spare() >= 7);
+    end(broker);
     Ok(())
 }

@@ -3,7 +3,7 @@ use crate::calls::Step::{
     Connect, Decline, Disconnect, Enter, Leave, Listen, ListenToMessages, Post, Reply, Send, Take,
 };
 use crate::calls::Want::{Is, Told};
-use crate::calls::{CHANNEL, REQUEST, Row, Step, make, play};
+use crate::calls::{CHANNEL, REQUEST, Row, Step, end, make, play};
 use crate::values::{A, page};
 use std::alloc::Global;
 use std::process::Abort;
@@ -229,7 +229,7 @@ const CHANNELS: &[(&str, &[Row])] = &[
 #[test]
 fn channels(rt: HostRuntime) -> Result<(), Fail> {
     for (name, rows) in CHANNELS {
-        let _ = play(&rt, rt.alloc(), World::new(rt.alloc()), name, rows);
+        end(play(&rt, rt.alloc(), World::new(rt.alloc()), name, rows));
     }
     Ok(())
 }
@@ -247,7 +247,7 @@ const REQUESTS: &[(&str, &[Row])] = &[
 #[test]
 fn requests(rt: HostRuntime) -> Result<(), Fail> {
     for (name, rows) in REQUESTS {
-        let _ = play(&rt, rt.alloc(), World::new(rt.alloc()), name, rows);
+        end(play(&rt, rt.alloc(), World::new(rt.alloc()), name, rows));
     }
     Ok(())
 }
@@ -296,6 +296,7 @@ fn longest_post(rt: HostRuntime) -> Result<(), Fail> {
         let made = post_digits(&mut broker, rt.alloc(), count);
         assert_eq!(rt; made, Some(answer), "{count} digits");
     }
+    end(broker);
     Ok(())
 }
 
@@ -351,6 +352,7 @@ fn too_long_comes_last(rt: HostRuntime) -> Result<(), Fail> {
         };
         assert_eq!(rt; made, Some(*answer));
     }
+    end(broker);
     Ok(())
 }
 
@@ -370,7 +372,6 @@ fn visit(broker: &mut Broker, x: Context, l: Listens, name: Utf8Text) -> Option<
 
 #[test]
 fn gone_after_a_leave(rt: HostRuntime) -> Result<(), Fail> {
-    let mut broker = Broker::new(rt.alloc(), World::new(rt.alloc()));
     let x = page(rt.alloc(), A, "/p").ok_or("a page's path")?;
     let listens = Listens {
         connect: true,
@@ -379,6 +380,8 @@ fn gone_after_a_leave(rt: HostRuntime) -> Result<(), Fail> {
         external_message: false,
     };
     let name = Utf8Text::new(rt.alloc(), "")?;
+    let mut broker = Broker::new(rt.alloc(), World::new(rt.alloc()));
     assert_eq!(rt; visit(&mut broker, x, listens, name), Some(Answer::Gone));
+    end(broker);
     Ok(())
 }
