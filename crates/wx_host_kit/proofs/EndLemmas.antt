@@ -36,11 +36,11 @@ same_front t u x y small less e =
     let n = length t in
     let m = length u in
     let parts : length_bytes n ++ (t ++ x) ≡ length_bytes m ++ (u ++ y) = sym (append_assoc (length_bytes n) t x) ∙ e
-        ∙ append_assoc (length_bytes m) u y in
+    ∙ append_assoc (length_bytes m) u y in
     let long : n ≡ m = sym (told-length_bytes n (t ++ x) small) ∙ ap told_length parts
-        ∙ told-length_bytes m (u ++ y) less in
+    ∙ told-length_bytes m (u ++ y) less in
     let behind : t ++ x ≡ u ++ y = append_cancel_left (length_bytes m) (t ++ x) (u ++ y)
-        (ap (λ i. length_bytes i ++ (t ++ x)) (sym long) ∙ parts) in
+    (ap (λ i. length_bytes i ++ (t ++ x)) (sym long) ∙ parts) in
     let same : t ≡ u = sym (take_seam m t x long) ∙ ap (take m) behind ∙ take_seam m u y refl in
     (same, append_cancel_left u x y (ap (λ v. v ++ x) (sym same) ∙ behind))
 
@@ -64,7 +64,7 @@ one_stop reply (t ∷ ts) (u ∷ us) r q ft fu at au sr sq e =
     let few = ft.1 in
     let less = fu.1 in
     let same = same_front t u (frames ts ++ r) (frames us ++ q) (omega arith) (omega arith)
-        (sym (append_assoc (frame t) (frames ts) r) ∙ e ∙ append_assoc (frame u) (frames us) q) in
+    (sym (append_assoc (frame t) (frames ts) r) ∙ e ∙ append_assoc (frame u) (frames us) q) in
     one_stop reply ts us r q ft.2 fu.2 (reply_fits longest_reply (reply t) (replies reply ts) at).1
     (reply_fits longest_reply (reply u) (replies reply us) au).1 sr sq same.1
 
@@ -180,11 +180,11 @@ pub one_end : OneEnd
 one_end reply old new before now first last end other fresh b c h k =
     let G : List ℕ → Option Stream → Type 0 = λ x s. Gives s new.stream x in
     let same = one_bytes fresh.stream new.stream h.bytes k.bytes (subst (G h.bytes) fresh.told h.given)
-        (subst (G k.bytes) fresh.told k.given) in
+    (subst (G k.bytes) fresh.told k.given) in
     let w = why reply h.rest h.part old new before now end fresh.on b h.cause in
     let v = why reply k.rest k.part old new first last other fresh.on c k.cause in
     let rest : h.rest ≡ k.rest = one_stop reply h.texts k.texts h.rest k.rest h.answered.texts_fit k.answered.texts_fit
-        h.answered.replies_fit k.answered.replies_fit (stops reply h.rest new.ended end w)
-        (stops reply k.rest new.ended other v) (sym h.answered.bytes_are ∙ same ∙ k.answered.bytes_are) in
+    h.answered.replies_fit k.answered.replies_fit (stops reply h.rest new.ended end w)
+    (stops reply k.rest new.ended other v) (sym h.answered.bytes_are ∙ same ∙ k.answered.bytes_are) in
     let W : List ℕ → Type 0 = λ r. Why reply r new.ended other in
     one_why reply h.rest new.ended end other w (subst W (sym rest) v)

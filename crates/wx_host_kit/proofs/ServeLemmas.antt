@@ -251,8 +251,8 @@ part_front : (rest part : List ℕ) (old new : OutState) (before now : InState) 
 part_front rest part old new before now WriteFailed (rose, (next, at, short, (n, is))) =
     let same : at.text ≡ next = cc in
     let whole : rest ≡ take n (frame next) ++ (drop n (frame next) ++ at.behind) = at.rest_is
-        ∙ ap (λ t. frame t ++ at.behind) same ∙ ap (λ x. x ++ at.behind) (sym (take-append-drop n (frame next)))
-        ∙ append_assoc (take n (frame next)) (drop n (frame next)) at.behind in
+    ∙ ap (λ t. frame t ++ at.behind) same ∙ ap (λ x. x ++ at.behind) (sym (take-append-drop n (frame next)))
+    ∙ append_assoc (take n (frame next)) (drop n (frame next)) at.behind in
     (drop n (frame next) ++ at.behind, whole ∙ ap (λ x. x ++ (drop n (frame next) ++ at.behind)) (sym is))
 part_front rest part old new before now Exited h = (rest, ap (λ x. x ++ rest) (sym h.0))
 part_front rest part old new before now (TooLong len) h = (rest, ap (λ x. x ++ rest) (sym h.0))

@@ -24,5 +24,5 @@ pub record IsEchoed (old new : OutState) (before now : InState) (end : KitEnd) :
 
 -- so does every kit that serves by the echo
 abbrev pub EchoLaw : Type 0
-EchoLaw = (old new : OutState) (before now : InState) (end : KitEnd) → IsServed (λ text. Some text) old new before now end
-    → IsEchoed old new before now end
+EchoLaw = (old new : OutState) (before now : InState) (end : KitEnd)
+    → IsServed (λ text. Some text) old new before now end → IsEchoed old new before now end

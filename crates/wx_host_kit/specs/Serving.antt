@@ -44,7 +44,8 @@ pub record IsServing (reply : Reply) (bytes hand : List ℕ) (before now : InSta
   pub later : before.faults ≤ now.faults
 
 -- The kit ends with a cause, behind texts that were answered.
-pub record IsOver (reply : Reply) (bytes : List ℕ) (old new : OutState) (before now : InState) (end : KitEnd) : Type 0 where
+pub record IsOver (reply : Reply) (bytes : List ℕ) (old new : OutState) (before now : InState) (end : KitEnd)
+    : Type 0 where
   pub texts : List (List ℕ)
   pub rest : List ℕ
   pub answered : HasAnswered reply bytes texts rest

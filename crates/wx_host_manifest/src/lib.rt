@@ -11,3 +11,4 @@ mod parts;
 pub use arguments::Arguments;
 pub use faults::{HostFault, HostKey};
 pub use manifest::HostManifest;
+pub use origin::read_origin;

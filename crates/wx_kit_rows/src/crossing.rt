@@ -3,7 +3,7 @@ use std::alloc::{AllocError, Global};
 use std::sync::Wait;
 use std::test::Fail;
 use wx_cmd::wx;
-use wx_host_kit::{Echo, Handler, KitEnd, serve_kit};
+use wx_host_kit::{Echo, Handler, KitEnd, is_host_call, serve_kit};
 use wx_host_launch::{MemoryChild, MemoryIn, MemoryOut, MemoryStarter};
 use wx_id::ChannelNo;
 use wx_journal::Journal;
@@ -150,14 +150,7 @@ fn run(alloc: Global, play: &Play, writes: &[u8]) -> Result<Came, AllocError> {
     let mut starter = MemoryStarter::new(alloc, &children, 64);
     let mut out = sink(alloc);
     let mut err = sink(alloc);
-    let status = wx(
-        alloc,
-        &words,
-        &mut shelf,
-        &mut starter,
-        &mut out,
-        &mut err,
-    );
+    let status = wx(alloc, &words, &mut shelf, &mut starter, &mut out, &mut err);
     let mut sent = Vec::new(alloc);
     for record in starter.records() {
         sent.extend_from_slice(&record.sent)?;
@@ -170,11 +163,7 @@ fn run(alloc: Global, play: &Play, writes: &[u8]) -> Result<Came, AllocError> {
 }
 
 /// What the kit writes with the echo over these bytes, and how it ends.
-fn echoed<R: Wait>(
-    rt: &R,
-    alloc: Global,
-    read: &[u8],
-) -> Result<(Vec<u8>, KitEnd), AllocError> {
+fn echoed<R: Wait>(rt: &R, alloc: Global, read: &[u8]) -> Result<(Vec<u8>, KitEnd), AllocError> {
     let mut echo: Box<dyn Handler> = Box::new(alloc, Echo)?;
     let mut input = MemoryOut {
         bytes: read,
@@ -229,5 +218,28 @@ fn what_was_never_posted_is_no_good_pipe(rt: HostRuntime) -> Result<(), Fail> {
     assert_eq!(rt; came.status, Status::Done);
     assert!(rt; came.sent.is_empty());
     assert_eq!(rt; pipe_of(alloc, &came.journal)?, Some(false));
+    Ok(())
+}
+
+const USAGE: &[u8] = b"wx: usage\n";
+
+/// The words by which a browser starts a host are for the program's `main`: the top call has no such command.
+#[test]
+fn a_hosts_words_are_no_command(rt: HostRuntime) -> Result<(), Fail> {
+    let alloc = rt.alloc();
+    let mut words = Vec::new(alloc);
+    words.push(String::from_str(
+        alloc,
+        "chrome-extension://aaaaaaaaaaaaaaaaaaaaaaaaaaaaaaaa/",
+    )?)?;
+    assert!(rt; is_host_call(&words));
+    let mut shelf = shelf_of(alloc, &LISTENER)?;
+    let mut starter = MemoryStarter::new(alloc, &[], 0);
+    let mut out = sink(alloc);
+    let mut err = sink(alloc);
+    let status = wx(alloc, &words, &mut shelf, &mut starter, &mut out, &mut err);
+    assert_eq!(rt; status, Status::Usage);
+    assert!(rt; out.bytes.is_empty());
+    assert_eq!(rt; err.bytes.as_slice(), USAGE);
     Ok(())
 }

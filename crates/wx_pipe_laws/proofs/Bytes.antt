@@ -25,9 +25,11 @@ sent_first failed texts bytes (whole is) = ([], sym (append-nil (frames texts)) 
 sent_first failed texts bytes (in_part f before last n are is) =
     let all : frames texts ≡ frames before ++ (frame last ++ []) = ap frames are ∙ frames-append before (last ∷ []) in
     let cut : frame last ++ [] ≡ take n (frame last) ++ drop n (frame last) = append-nil (frame last)
-        ∙ sym (take-append-drop n (frame last)) in
-    (drop n (frame last), all ∙ ap (λ x. frames before ++ x) cut
-    ∙ sym (append_assoc (frames before) (take n (frame last)) (drop n (frame last))) ∙ ap (λ x. x ++ drop n (frame last)) (sym is))
+    ∙ sym (take-append-drop n (frame last)) in (
+      drop n (frame last),
+      all ∙ ap (λ x. frames before ++ x) cut
+          ∙ sym (append_assoc (frames before) (take n (frame last)) (drop n (frame last))) ∙ ap (λ x. x ++ drop n (frame last)) (sym is),
+    )
 
 no_frame_in_nothing : (u x : List ℕ) → [] ≡ frame u ++ x → ⊥
 no_frame_in_nothing u x is =
@@ -43,7 +45,7 @@ texts_first (u ∷ us) (t ∷ ts) rest fit short is =
     let few = fit.1 in
     let less = short.0 in
     let same = same_front t u (frames ts) (frames us ++ rest) (omega arith) (omega arith)
-        (is ∙ append_assoc (frame u) (frames us) rest) in
+    (is ∙ append_assoc (frame u) (frames us) rest) in
     let more = texts_first us ts rest fit.2 short.1 same.1 in
     (more.0, ap (λ x. x ∷ ts) same.0 ∙ ap (λ l. u ∷ l) more.1)
 

@@ -91,12 +91,12 @@ said_first : (world : WorldLists) (past : List Entry) (h : HostNo) (r : HostReco
 said_first world past h r writing account legal meets echo =
     let sent = sent_first (0 < r.failed_writes) (taken_by h past) account.sent meets.sent in
     let front = prefix_of account.read account.sent (frames (taken_by h past))
-        (prefix_of account.read echo.read account.sent
-        (prefix_of account.read echo.written echo.read echo.read_first (echo_front echo.read echo.written echo.echo))
-        echo.sent_first) sent in
+    (prefix_of account.read echo.read account.sent
+    (prefix_of account.read echo.written echo.read echo.read_first (echo_front echo.read echo.written echo.echo))
+    echo.sent_first) sent in
     let heard = meets.heard in
     let whole : frames (taken_by h past) ≡ frames heard.texts ++ (heard.rest ++ front.0) = front.1
-        ∙ ap (λ x. x ++ front.0) heard.split.stream_is ∙ append_assoc (frames heard.texts) heard.rest front.0 in
+    ∙ ap (λ x. x ++ front.0) heard.split.stream_is ∙ append_assoc (frames heard.texts) heard.rest front.0 in
     prefix_of (said_by h past) heard.texts (taken_by h past) (meets.unsaid, meets.said_first)
     (texts_first heard.texts (taken_by h past) (heard.rest ++ front.0) heard.split.fit
     (taken_are world past h legal).short whole)
@@ -128,7 +128,7 @@ taken_first world past h k c legal works native =
     let W : Option Work → Type 0 = λ w. IsPrefix (texts past (texts_taken past h)) (texts past (for_work past w)) in
     let P : List (Option (List ℕ)) → Type 0 = IsPrefix (texts past (texts_taken past h)) in
     let first = first_there (texts past (texts_taken past h)) (posted_texts c k.0 (reverse past))
-        (subst P (posts_are world past c k.0 legal native) (subst W works (hosts_take_texts_in_order_lem world past h legal))) in
+    (subst P (posts_are world past c k.0 legal native) (subst W works (hosts_take_texts_in_order_lem world past h legal))) in
     let same = one_list first.found (taken_by h past) (sym first.are ∙ (taken_are world past h legal).are) in
     let T : List (List ℕ) → Type 0 = λ ts. IsPrefix ts (posted_texts c k.0 (reverse past)) in
     subst T same first.first
@@ -146,7 +146,7 @@ messages_first world past h k o legal works native =
     let G : List (List ℕ) → Type 0 = λ ts. IsPrefix (texts past (messages k (taken past c))) (map Some ts) in
     let at = ap (given_texts past k) (opens_channel past c k o.ends) in
     let first = first_there (texts past (messages k (taken past c))) (given_texts past k Opener)
-        (subst G at (takes_texts_in_order_lem world past c k legal)) in
+    (subst G at (takes_texts_in_order_lem world past c k legal)) in
     let given = given_are world past c h k legal native (host_of past h k works) in
     record {
       found = first.found;
@@ -162,10 +162,10 @@ is_good world past h k o legal works said =
     let native : IsNative past c k.0 = λ ends at. let same = sym at ∙ o.ends in cc in
     let first = messages_first world past h k.0 o legal (for_it k (work_of past h) works) native in
     let all = prefix_of first.found (taken_by h past) (posted_texts c k.0 (reverse past))
-        (prefix_of first.found (said_by h past) (taken_by h past) first.first said)
-        (taken_first world past h k c legal works native) in
+    (prefix_of first.found (said_by h past) (taken_by h past) first.first said)
+    (taken_first world past h k c legal works native) in
     let are : map (text_at (reverse past)) (messages_taken c k.0 (reverse past)) ≡ map Some first.found =
-        ap (map (text_at (reverse past))) (messages_are past c k.0) ∙ text_is past (messages k.0 (taken past c)) ∙ first.are in
+    ap (map (text_at (reverse past))) (messages_are past c k.0) ∙ text_is past (messages k.0 (taken past c)) ∙ first.are in
     let good = checks (reverse past) (messages_taken c k.0 (reverse past)) first.found (posted_texts c k.0 (reverse past)) are all in
     ap (option_map (λ x. are_first (reverse past) (messages_taken x k.0 (reverse past)) (posted_texts x k.0 (reverse past)))) o.first
     ∙ ap Some good

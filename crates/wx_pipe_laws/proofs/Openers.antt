@@ -51,9 +51,11 @@ opens_next world past k (ByContext b) (ConnectNative name) (OnChannel j) c answe
     parts false at found = absurd cc
     parts true at found =
         let same : b ≡ c = cc in
-        let E : ContextNo → Option Ends = λ x. Some (record { opener = x; receivers = [] }) in
-        (sym (native_tells (is_live past b) (native_gate_for world (context_of past b) name) (length (channels past)) j answered)
-        ∙ eqb-true j.0 k at, ap E same)
+        let E : ContextNo → Option Ends = λ x. Some (record { opener = x; receivers = [] }) in (
+          sym (native_tells (is_live past b) (native_gate_for world (context_of past b) name) (length (channels past)) j answered)
+              ∙ eqb-true j.0 k at,
+          ap E same,
+        )
 opens_next world past k _ _ _ c answered is = absurd cc
 
 -- a channel that is not there was opened by nobody

@@ -110,7 +110,7 @@ one_post world past c k e (ByContext b) (Post j text) Posted native answered car
         let same : j.0 ≡ k = eqb-true j.0 k is in
         let P : ℕ → Type 0 = λ n. AtEnd c b (end_in (channel past n) b) in
         let by : b.0 ≡ c.0 = posts_by c b (is_live past b) (is_closed past j.0) (nat_lt LONGEST (length text))
-            (end_in (channel past j.0) b) (subst P (sym same) (end_is past c b k native)) answered in
+        (end_in (channel past j.0) b) (subst P (sym same) (end_is past c b k native)) answered in
         subst (λ (n : ℕ). (b.0 == n) ≡ true) by (eqb_refl b.0)
 
     no_post : (m : Bool) → [] ≡ map Some (option_to_list (cond (m && false) (Some text) None))
@@ -334,7 +334,7 @@ given_more past e h k given ts so (to_said none) g s =
     let old = given_texts past k Opener in
     let was = g ∙ append-nil old in
     let more : said_by h past ++ ts ≡ old ++ (so.first.0 ++ ts) = ap (λ l. l ++ ts) so.first.1
-        ∙ append_assoc old so.first.0 ts in
+    ∙ append_assoc old so.first.0 ts in
     record {
       first = (so.first.0 ++ ts, s ∙ more ∙ ap (λ l. l ++ (so.first.0 ++ ts)) (sym was));
       all = λ now.

@@ -41,7 +41,7 @@ pub record AnswersByEcho (account : Account) : Type 0 where
 -- A pipe to a host that answers by the echo is good, where the host's record meets the legal journal, whether the run
 -- was spent or not.
 abbrev pub EchoIsGood : Type 0
-EchoIsGood = (writing : Writing) (world : WorldLists) (journal : List Entry) (h : HostNo) (k : ChannelNo) (r : HostRecord)
-    (account : Account) → IsLegal world journal → work_of (reverse journal) h ≡ Some (ForChannel k)
+EchoIsGood = (writing : Writing) (world : WorldLists) (journal : List Entry) (h : HostNo) (k : ChannelNo)
+    (r : HostRecord) (account : Account) → IsLegal world journal → work_of (reverse journal) h ≡ Some (ForChannel k)
     → RecordMeets (Unit {0}) (Some writing) world (reverse journal) h r → r.account ≡ Some account
     → AnswersByEcho account → pipe_check k.0 journal ≡ Some true
