@@ -1,5 +1,6 @@
 //! The program as a host that a browser starts: the words by which it is one, its run and its status.
 ghost use Rattle.std.specs.Prelude.{◌≡◌, map, string_bytes};
+ghost use Rattle.wx_host_manifest.specs.Origins.{caller_of};
 ghost use Rattle.wx_host_kit.specs.Calls.{is_host_call, host_status};
 ghost use Rattle.wx_host_kit.specs.Kit.{IsServed};
 
@@ -9,14 +10,32 @@ use crate::serve::serve_kit;
 use std::alloc::Global;
 use std::sync::Wait;
 use wx_host_launch::{HostIn, HostOut};
-use wx_host_manifest::read_origin;
+use wx_id::ExtensionId;
+
+const SCHEME: &str = "chrome-extension://";
+
+/// Whose origin the word is: `chrome-extension://ID/` is that of the extension ID.
+fn caller_of(word: &str) -> Option<ExtensionId>
+    ensures { result ≡ caller_of word.now }
+{
+    let Some(rest) = word.as_bytes().strip_prefix(SCHEME.as_bytes()) else {
+        return None;
+    };
+    let Some(id) = rest.strip_suffix(b"/") else {
+        return None;
+    };
+    match ExtensionId::read(id) {
+        Ok(id) => Some(id),
+        Err(_) => None,
+    }
+}
 
 /// Whether these are the words by which a browser starts a host: the first is an extension's origin.
 pub fn is_host_call(words: &[String]) -> bool
     ensures { result ≡ is_host_call (map string_bytes words.now) }
 {
     match words.first() {
-        Some(word) => read_origin(word.as_str()).is_some(),
+        Some(word) => caller_of(word.as_str()).is_some(),
         None => false,
     }
 }

@@ -11,4 +11,3 @@ mod parts;
 pub use arguments::Arguments;
 pub use faults::{HostFault, HostKey};
 pub use manifest::HostManifest;
-pub use origin::read_origin;

@@ -7,8 +7,8 @@ use wx_id::{ExtensionId, NoMemory};
 
 const SCHEME: &str = "chrome-extension://";
 
-/// Whose origin this text is: `chrome-extension://ID/` is that of the extension ID, and no other text is one.
-pub fn read_origin(text: &str) -> Option<ExtensionId>
+/// Whose origin this text is.
+pub(crate) fn read_origin(text: &str) -> Option<ExtensionId>
     ensures { result ≡ caller_of text.now }
 {
     let Some(rest) = text.as_bytes().strip_prefix(SCHEME.as_bytes()) else {
