@@ -348,10 +348,8 @@ fn put_entry(out: &mut Vec<u8>, e: &Entry) -> Result<(), AllocError>
 /// The room that an entry's line is likely to need: that of the texts which its call carries, and 48 bytes for the rest.
 fn usual_room(call: &Call) -> usize {
     let texts = match call {
-        Call::Post(_, text)
-        | Call::Send(_, text)
-        | Call::Reply(_, text)
-        | Call::HostSaid(text) => text.bytes().len(),
+        Call::Post(_, text) | Call::Send(_, text) | Call::Reply(_, text) | Call::HostSaid(text) =>
+            text.bytes().len(),
         Call::Connect(_, name) | Call::ConnectNative(name) => name.as_str().len(),
         Call::SendNative(name, text) => name.as_str().len().saturating_add(text.bytes().len()),
         _ => 0,
