@@ -167,11 +167,20 @@ fn held(alloc: Global, world: &World, question: &str) -> Answer {
     }
 }
 
+/// The names that were refused, if any.
+fn refused_or_none(alloc: Global, refused: String) -> Answer {
+    if refused.is_empty() {
+        Ok(String::from_str(alloc, "none")?)
+    } else {
+        Ok(refused)
+    }
+}
+
 /// What the world of these lines answers: `CALLER to TARGET`, which names were `refused`, or what it holds.
 pub fn world(alloc: Global, lines: &str, question: &str) -> Answer {
     let (world, refused) = world_of(alloc, lines)?;
     if question == "refused" {
-        return Ok(refused);
+        return refused_or_none(alloc, refused);
     }
     match question.split_once(" to ") {
         Some((caller, target)) => call(alloc, &world, caller, target),
