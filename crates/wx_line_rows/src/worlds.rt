@@ -6,7 +6,7 @@ use crate::ids::id_of;
 use crate::words::no_question;
 use std::alloc::Global;
 use wx_context::Target;
-use wx_external::{NativeVerdict, Rule, Verdict, World, gate, native_gate};
+use wx_external::{AddFault, NativeVerdict, Rule, Verdict, World, gate, native_gate};
 use wx_host_manifest::HostManifest;
 use wx_id::{FrameId, NoMemory, TabId};
 use wx_manifest::Extension;
@@ -25,10 +25,11 @@ fn add_extension(
     let Ok(extension) = Extension::read(alloc, manifest.as_bytes()) else {
         return Ok(refused.push_str("bad_manifest ")?);
     };
-    if let Err((_, back)) = world.add_extension(id, extension) {
-        refused.push_str(back.name())?;
+    match world.add_extension(id, extension) {
+        Ok(()) => Ok(()),
+        Err((AddFault::Repeated, back)) => Ok(refused.push_str(back.name())?),
+        Err((AddFault::NoMemory, _)) => Err(NoMemory),
     }
-    Ok(())
 }
 
 /// Adds a host, or its name to those that were refused.
@@ -42,10 +43,11 @@ fn add_host(
     let Ok(host) = HostManifest::read(alloc, file, manifest.as_bytes()) else {
         return Ok(refused.push_str("bad_manifest ")?);
     };
-    if let Err((_, back)) = world.add_host(host) {
-        refused.push_str(back.name().text())?;
+    match world.add_host(host) {
+        Ok(()) => Ok(()),
+        Err((AddFault::Repeated, back)) => Ok(refused.push_str(back.name().text())?),
+        Err((AddFault::NoMemory, _)) => Err(NoMemory),
     }
-    Ok(())
 }
 
 /// The world of these lines, each an id or a file's name and a manifest, and the names that were refused.
