@@ -7,54 +7,70 @@ use wx_id::NoMemory;
 /// An answer in words.
 pub type Answer = Result<String, NoMemory>;
 
-/// What the rows of a file ask of their text, and of what is given for it.
+/// What is asked of texts that may be any bytes.
 #[derive(Clone, Copy)]
-pub enum Subject {
+pub enum OfBytes {
     ExtensionId,
     HostName,
+    Object,
+    Manifest,
+    HostManifest,
+    Json,
+    Frames,
+}
+
+/// What is asked of texts in UTF-8.
+#[derive(Clone, Copy)]
+pub enum OfText {
     Pattern,
     Match,
     PagePath,
     WebUrl,
     Sender,
-    Object,
     Key,
-    Manifest,
     ManifestContent,
-    HostManifest,
     HostContent,
     World,
-    Json,
-    Frames,
 }
 
-/// The answer of a subject that is asked in UTF-8.
-fn answer_to_text(alloc: Global, subject: Subject, given: &str, text: &str) -> Answer {
+/// What the rows of a file ask of their texts, and of what is given for them.
+#[derive(Clone, Copy)]
+pub enum Subject {
+    Bytes(OfBytes),
+    Text(OfText),
+}
+
+fn answer_to_bytes(alloc: Global, subject: OfBytes, given: &[u8], bytes: &[u8]) -> Answer {
     match subject {
-        Subject::Pattern => patterns::pattern(alloc, text),
-        Subject::Match => patterns::matched(alloc, given, text),
-        Subject::PagePath => contexts::page_path(alloc, text),
-        Subject::WebUrl => contexts::web_url(alloc, text),
-        Subject::Sender => contexts::sender(alloc, text),
-        Subject::Key => trees::key(alloc, given, text),
-        Subject::ManifestContent => manifests::content(alloc, given, text),
-        Subject::HostContent => hosts::content(alloc, given, text),
-        Subject::World => worlds::world(alloc, given, text),
-        _ => Ok(String::from_str(alloc, "not asked in UTF-8")?),
+        OfBytes::ExtensionId => ids::extension_id(alloc, bytes),
+        OfBytes::HostName => ids::host_name(alloc, bytes),
+        OfBytes::Object => trees::object(alloc, bytes),
+        OfBytes::Manifest => manifests::manifest(alloc, bytes),
+        OfBytes::HostManifest => hosts::manifest(alloc, given, bytes),
+        OfBytes::Json => json::json(alloc, bytes),
+        OfBytes::Frames => frames::frames(alloc, bytes),
+    }
+}
+
+fn answer_to_text(alloc: Global, subject: OfText, given: &str, text: &str) -> Answer {
+    match subject {
+        OfText::Pattern => patterns::pattern(alloc, text),
+        OfText::Match => patterns::matched(alloc, given, text),
+        OfText::PagePath => contexts::page_path(alloc, text),
+        OfText::WebUrl => contexts::web_url(alloc, text),
+        OfText::Sender => contexts::sender(alloc, text),
+        OfText::Key => trees::key(alloc, given, text),
+        OfText::ManifestContent => manifests::content(alloc, given, text),
+        OfText::HostContent => hosts::content(alloc, given, text),
+        OfText::World => worlds::world(alloc, given, text),
     }
 }
 
 /// The answer to a row.
 pub fn answer(alloc: Global, subject: Subject, given: &[u8], text: &[u8]) -> Answer {
     match subject {
-        Subject::ExtensionId => ids::extension_id(alloc, text),
-        Subject::HostName => ids::host_name(alloc, text),
-        Subject::Object => trees::object(alloc, text),
-        Subject::Manifest => manifests::manifest(alloc, text),
-        Subject::HostManifest => hosts::manifest(alloc, given, text),
-        Subject::Json => json::json(alloc, text),
-        Subject::Frames => frames::frames(alloc, text),
-        _ => match (str::from_utf8(given), str::from_utf8(text)) {
+        Subject::Bytes(subject) => answer_to_bytes(alloc, subject, given, text),
+        Subject::Text(subject) => match (str::from_utf8(given), str::from_utf8(text)) {
             (Ok(given), Ok(text)) => answer_to_text(alloc, subject, given, text),
             _ => Ok(String::from_str(alloc, "not UTF-8")?),
         },

@@ -17,7 +17,7 @@ mod trees;
 mod words;
 mod worlds;
 
-use crate::answers::{Subject, answer};
+use crate::answers::{OfBytes, OfText, Subject, answer};
 use crate::rows::{Row, RowFault, rows_of};
 use std::alloc::Global;
 use std::process::ExitCode;
@@ -26,24 +26,24 @@ use wx_outside::{FileShelf, Found, Shelf, Sink, StreamSink};
 
 /// The files of rows, in the order in which they are played, and what each asks.
 const FILES: [(&str, Subject); 18] = [
-    ("extension_ids", Subject::ExtensionId),
-    ("host_names", Subject::HostName),
-    ("patterns", Subject::Pattern),
-    ("matches", Subject::Match),
-    ("page_paths", Subject::PagePath),
-    ("web_urls", Subject::WebUrl),
-    ("senders", Subject::Sender),
-    ("objects", Subject::Object),
-    ("keys", Subject::Key),
-    ("manifests", Subject::Manifest),
-    ("manifest_contents", Subject::ManifestContent),
-    ("host_manifests", Subject::HostManifest),
-    ("host_contents", Subject::HostContent),
-    ("calls", Subject::World),
-    ("native_calls", Subject::World),
-    ("worlds", Subject::World),
-    ("json", Subject::Json),
-    ("frames", Subject::Frames),
+    ("extension_ids", Subject::Bytes(OfBytes::ExtensionId)),
+    ("host_names", Subject::Bytes(OfBytes::HostName)),
+    ("patterns", Subject::Text(OfText::Pattern)),
+    ("matches", Subject::Text(OfText::Match)),
+    ("page_paths", Subject::Text(OfText::PagePath)),
+    ("web_urls", Subject::Text(OfText::WebUrl)),
+    ("senders", Subject::Text(OfText::Sender)),
+    ("objects", Subject::Bytes(OfBytes::Object)),
+    ("keys", Subject::Text(OfText::Key)),
+    ("manifests", Subject::Bytes(OfBytes::Manifest)),
+    ("manifest_contents", Subject::Text(OfText::ManifestContent)),
+    ("host_manifests", Subject::Bytes(OfBytes::HostManifest)),
+    ("host_contents", Subject::Text(OfText::HostContent)),
+    ("calls", Subject::Text(OfText::World)),
+    ("native_calls", Subject::Text(OfText::World)),
+    ("worlds", Subject::Text(OfText::World)),
+    ("json", Subject::Bytes(OfBytes::Json)),
+    ("frames", Subject::Bytes(OfBytes::Frames)),
 ];
 
 /// How many rows were played, and how many of them are wrong.

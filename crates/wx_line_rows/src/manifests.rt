@@ -28,9 +28,8 @@ fn admits(alloc: Global, extension: &Extension, caller: &str) -> Answer {
 
 /// What a manifest holds: the value of a key, whether there is one, or whom it `admits`.
 fn held(alloc: Global, extension: &Extension, question: &str) -> Answer {
-    match question.split_once(' ') {
-        Some(("admits", caller)) => return admits(alloc, extension, caller),
-        _ => {}
+    if let Some(caller) = question.strip_prefix("admits ") {
+        return admits(alloc, extension, caller);
     }
     match question {
         "manifest_version" => Ok(format!(in alloc; "{}", extension.manifest_version())?),
