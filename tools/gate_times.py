@@ -190,6 +190,15 @@ def texts(crate, folder, ending):
     return found
 
 
+def printed(crate):
+    """What the crate's program has to print."""
+    try:
+        with open(os.path.join(TOP, "crates", crate, "stdout"), encoding="utf-8") as f:
+            return f.read()
+    except FileNotFoundError:
+        return ""
+
+
 def counts(crate):
     """Lines of code, of definitions and of proofs; how many test functions, tests and edits."""
     source = texts(crate, "src", ".rt")
@@ -198,6 +207,7 @@ def counts(crate):
     lines = lambda them: sum(text.count("\n") for text in them)
     code = lines(text for path, text in source.items() if os.path.splitext(os.path.basename(path))[0] not in tested)
     rows = sum(len(re.findall(r"(?m)^row ", text)) for text in texts(crate, "data", "").values())
+    rows += sum(int(count) for count in re.findall(r"(?m)^\w+: (\d+) rows, 0 wrong$", printed(crate)))
     return {
         "code": code,
         "definitions": lines(texts(crate, "specs", ".antt").values()),

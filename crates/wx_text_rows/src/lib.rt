@@ -1,28 +1,14 @@
-//! The tests of the crates of texts: ids, JSON, match patterns, manifests, contexts, gates, frames, files and sinks,
-//! by their public calls.
+//! The tests of the crates of texts that are no rows of text in `wx_line_rows`: a reader or a check from step to step,
+//! files and sinks, and what may cross threads.
 #![tactic(auto)]
 
 #[cfg(test)]
-mod contexts;
-#[cfg(test)]
 mod frames;
-#[cfg(test)]
-mod gates;
-#[cfg(test)]
-mod host_manifests;
 #[cfg(test)]
 mod ids;
 #[cfg(test)]
 mod json;
 #[cfg(test)]
-mod manifests;
-#[cfg(test)]
 mod outside;
 #[cfg(test)]
-mod patterns;
-#[cfg(test)]
-mod trees;
-
-/// Is compiled where values of the type may cross threads.
-#[cfg(test)]
-fn crosses_threads<T: Send + Sync>() {}
+mod threads;
