@@ -345,7 +345,7 @@ fn put_entry(out: &mut Vec<u8>, e: &Entry) -> Result<(), AllocError>
     put(out, b"\n")
 }
 
-/// The room that an entry's line is likely to need: that of the texts which its call carries, and 48 bytes for the rest.
+/// The room that an entry's line is likely to need: that of the texts that its call carries, and 48 bytes for the rest.
 fn usual_room(call: &Call) -> usize {
     let texts = match call {
         Call::Post(_, text) | Call::Send(_, text) | Call::Reply(_, text) | Call::HostSaid(text) =>

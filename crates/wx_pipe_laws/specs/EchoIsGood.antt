@@ -29,8 +29,8 @@ pub record IsEcho (read written : List ℕ) : Type 0 where
   pub empty : before.sent ≡ Some []
   pub writes : now.sent ≡ Some written
 
--- The host answers by the echo: a kit read the first of the bytes that the host was sent, and the bytes read of the host
--- are the first of those that the kit wrote.
+-- The host answers by the echo: a kit read the first of the bytes that the host was sent, and the bytes read of the
+-- host are the first of those that the kit wrote.
 pub record AnswersByEcho (account : Account) : Type 0 where
   pub read : List ℕ
   pub written : List ℕ
