@@ -2,7 +2,6 @@
 use crate::values::{A, B, json, name, page};
 use std::alloc::Global;
 use std::process::Abort;
-use std::test::Fail;
 use wx_broker::Broker;
 use wx_context::{Context, Listens, Target, WebUrl};
 use wx_external::World;
@@ -104,32 +103,32 @@ const HOST_E: &str =
 const HOST_F: &str =
     r#"{"name":"f","description":"d","path":"/bin/f","type":"stdio","allowed_origins":[]}"#;
 
-fn add_extension(world: &mut World, alloc: Global, id: &[u8], manifest: &str) -> Result<(), Fail> {
-    let manifest = Extension::read(alloc, manifest.as_bytes())?;
-    match world.add_extension(ExtensionId::read(id)?, manifest) {
-        Ok(()) => Ok(()),
-        Err((fault, _)) => Err(fault.into()),
-    }
+fn add_extension(world: &mut World, alloc: Global, id: &[u8], manifest: &str) -> Option<()> {
+    let id = ExtensionId::read(id).ok()?;
+    let manifest = Extension::read(alloc, manifest.as_bytes()).ok()?;
+    world.add_extension(id, manifest).ok()
 }
 
-fn add_host(world: &mut World, alloc: Global, file: &str, manifest: &str) -> Result<(), Fail> {
-    let host = HostManifest::read(alloc, file, manifest.as_bytes())?;
-    match world.add_host(host) {
-        Ok(()) => Ok(()),
-        Err((fault, _)) => Err(fault.into()),
+fn add_host(world: &mut World, alloc: Global, file: &str, manifest: &str) -> Option<()> {
+    let host = HostManifest::read(alloc, file, manifest.as_bytes()).ok()?;
+    world.add_host(host).ok()
+}
+
+fn fill(world: &mut World, alloc: Global) -> Option<()> {
+    for (id, manifest) in [(A, NATIVE), (B, PLAIN)] {
+        add_extension(world, alloc, id, manifest)?;
     }
+    for (file, manifest) in [("f.json", HOST_F), ("e.json", HOST_E)] {
+        add_host(world, alloc, file, manifest)?;
+    }
+    Some(())
 }
 
 /// Extension A may start hosts, extension B may not; host e lets A in, host f no extension.
-pub fn world_of_hosts(alloc: Global) -> Result<World, Fail> {
+pub fn world_of_hosts(rt: &impl Abort, alloc: Global) -> World {
     let mut world = World::new(alloc);
-    for (id, manifest) in [(A, NATIVE), (B, PLAIN)] {
-        add_extension(&mut world, alloc, id, manifest)?;
-    }
-    for (file, manifest) in [("f.json", HOST_F), ("e.json", HOST_E)] {
-        add_host(&mut world, alloc, file, manifest)?;
-    }
-    Ok(world)
+    assert!(rt; fill(&mut world, alloc).is_some(), "extensions and hosts");
+    world
 }
 
 fn web(alloc: Global) -> Option<Context> {

@@ -130,15 +130,14 @@ const PLAYS: &[(&str, &[Row], [bool; 2], bool)] = &[
 ];
 
 #[test]
-fn worked_examples(rt: HostRuntime) -> Result<(), Fail> {
+fn worked_examples(rt: HostRuntime) {
     for (name, rows, said_closed, ready) in PLAYS {
-        let broker = play(&rt, rt.alloc(), world_of_hosts(rt.alloc())?, name, rows);
+        let broker = play(&rt, rt.alloc(), world_of_hosts(&rt, rt.alloc()), name, rows);
         let told = [broker.said_closed(HostNo(0)), broker.said_closed(HostNo(1))];
         assert_eq!(rt; told, *said_closed, "{name}");
         assert_eq!(rt; broker.host_ready(HostNo(0)), *ready, "{name}");
         end(broker);
     }
-    Ok(())
 }
 
 /// Whether host 0 is ready, and then its call and the answer.
@@ -156,7 +155,7 @@ fn hosts_take_their_own(rt: HostRuntime) -> Result<(), Fail> {
         manifest: 1,
         caller: ExtensionId::read(A)?,
     };
-    let world = world_of_hosts(rt.alloc())?;
+    let world = world_of_hosts(&rt, rt.alloc());
     let name = "hosts take their own";
     let mut broker = play(&rt, rt.alloc(), world, name, HOSTS_TAKE_THEIR_OWN);
     let h = HostNo(0);

@@ -2,7 +2,6 @@
 use crate::values::{A, json, name, page};
 use std::alloc::Global;
 use std::process::Abort;
-use std::test::Fail;
 use wx_context::Target;
 use wx_id::{ChannelNo, ContextNo, EntryNo, Event, EventKind, HostNo, RequestNo};
 use wx_journal::{Journal, PortReport, RequestReport};
@@ -14,34 +13,29 @@ fn add(journal: &mut Journal, call: Call, answer: Answer) -> Option<()> {
     journal.push(Entry { who, call, answer }).ok()
 }
 
+/// Ends the journal: the drops of its parts are proved once, here.
+fn end(_journal: Journal) {}
+
 fn closed(r: u64, entry: u64) -> Answer {
     let (entry, kind) = (EntryNo(entry), EventKind::Closed(RequestNo(r)));
     Answer::Event(Event { entry, kind })
 }
 
-fn seven_entries(alloc: Global) -> Option<Journal> {
-    let mut journal = Journal::new(alloc);
+fn add_seven(journal: &mut Journal, alloc: Global) -> Option<()> {
     journal.reserve(7).ok()?;
-    add(
-        &mut journal,
-        Call::Enter(page(alloc, A, "/q")?),
-        Answer::Entered(ContextNo(0)),
-    )?;
+    let enter = Call::Enter(page(alloc, A, "/q")?);
+    add(journal, enter, Answer::Entered(ContextNo(0)))?;
     let port = name(alloc, "a\nb")?;
-    add(
-        &mut journal,
-        Call::Connect(Target::Own, port),
-        Answer::NoReceiver,
-    )?;
+    let connect = Call::Connect(Target::Own, port);
+    add(journal, connect, Answer::NoReceiver)?;
     let post = Call::Post(ChannelNo(7), json(alloc, "10")?);
-    add(&mut journal, post, Answer::NoPort)?;
+    add(journal, post, Answer::NoPort)?;
     let send = Call::Send(Target::Own, json(alloc, "[1]")?);
-    add(&mut journal, send, Answer::Request(RequestNo(0)))?;
+    add(journal, send, Answer::Request(RequestNo(0)))?;
     let reply = Call::Reply(RequestNo(3), json(alloc, "10.5")?);
-    add(&mut journal, reply, Answer::NotYours)?;
-    add(&mut journal, Call::Decline(RequestNo(3)), Answer::Late)?;
-    add(&mut journal, Call::Take, closed(2, 9))?;
-    Some(journal)
+    add(journal, reply, Answer::NotYours)?;
+    add(journal, Call::Decline(RequestNo(3)), Answer::Late)?;
+    add(journal, Call::Take, closed(2, 9))
 }
 
 const SEVEN_TEXT: &[u8] =
@@ -56,59 +50,53 @@ fn prints(alloc: Global, journal: &Journal, want: &[u8]) -> bool {
 }
 
 #[test]
-fn journal_and_text(rt: HostRuntime) -> Result<(), Fail> {
-    match seven_entries(rt.alloc()) {
-        Some(journal) => {
-            assert_eq!(rt; journal.len(), 7);
-            assert_eq!(rt; journal.text_of(EntryNo(2)).map(|text| text.len()), Some(2));
-            assert_eq!(rt; journal.text_of(EntryNo(3)).map(|text| text.len()), Some(3));
-            assert_eq!(rt; journal.text_of(EntryNo(4)).map(|text| text.len()), Some(4));
-            assert!(rt; journal.text_of(EntryNo(5)).is_none());
-            assert!(rt; journal.entry(EntryNo(7)).is_none());
-            assert!(rt; prints(rt.alloc(), &journal, SEVEN_TEXT));
-        }
-        None => assert!(rt; false),
-    }
-    Ok(())
+fn journal_and_text(rt: HostRuntime) {
+    let mut journal = Journal::new(rt.alloc());
+    assert!(rt; add_seven(&mut journal, rt.alloc()).is_some());
+    assert_eq!(rt; journal.len(), 7);
+    assert_eq!(rt; journal.text_of(EntryNo(2)).map(|text| text.len()), Some(2));
+    assert_eq!(rt; journal.text_of(EntryNo(3)).map(|text| text.len()), Some(3));
+    assert_eq!(rt; journal.text_of(EntryNo(4)).map(|text| text.len()), Some(4));
+    assert!(rt; journal.text_of(EntryNo(5)).is_none());
+    assert!(rt; journal.entry(EntryNo(7)).is_none());
+    assert!(rt; prints(rt.alloc(), &journal, SEVEN_TEXT));
+    end(journal);
 }
 
-fn one_channel(alloc: Global) -> Option<Journal> {
-    let mut journal = Journal::new(alloc);
+fn add_channel(journal: &mut Journal, alloc: Global) -> Option<()> {
     let enter = Call::Enter(page(alloc, A, "/q")?);
-    add(&mut journal, enter, Answer::Entered(ContextNo(0)))?;
+    add(journal, enter, Answer::Entered(ContextNo(0)))?;
     let connect = Call::Connect(Target::Own, name(alloc, "a")?);
     let (channel, opened) = (ChannelNo(0), Answer::Channel(ChannelNo(0)));
-    add(&mut journal, connect, opened)?;
+    add(journal, connect, opened)?;
     let post = Call::Post(channel, json(alloc, "1")?);
-    add(&mut journal, post, Answer::Posted)?;
-    add(&mut journal, Call::Disconnect(channel), Answer::Done)?;
-    Some(journal)
+    add(journal, post, Answer::Posted)?;
+    add(journal, Call::Disconnect(channel), Answer::Done)
 }
 
 #[test]
-fn reports(rt: HostRuntime) -> Result<(), Fail> {
-    match (seven_entries(rt.alloc()), one_channel(rt.alloc())) {
-        (Some(seven), Some(one)) => {
-            assert_eq!(rt; seven.port_report(ChannelNo(0)), None);
-            assert_eq!(rt; seven.request_report(RequestNo(3)), None);
-            assert_eq!(rt;
-                seven.request_report(RequestNo(0)),
-                Some(RequestReport {
-                    opened: EntryNo(3),
-                    settled: None
-                })
-            );
-            let report = PortReport {
-                opened: EntryNo(1),
-                closed: Some(EntryNo(3)),
-                posted: 1,
-                taken: 0,
-            };
-            assert_eq!(rt; one.port_report(ChannelNo(0)), Some(report));
-        }
-        _ => assert!(rt; false),
-    }
-    Ok(())
+fn reports(rt: HostRuntime) {
+    let (mut seven, mut one) = (Journal::new(rt.alloc()), Journal::new(rt.alloc()));
+    assert!(rt; add_seven(&mut seven, rt.alloc()).is_some());
+    assert!(rt; add_channel(&mut one, rt.alloc()).is_some());
+    assert_eq!(rt; seven.port_report(ChannelNo(0)), None);
+    assert_eq!(rt; seven.request_report(RequestNo(3)), None);
+    assert_eq!(rt;
+        seven.request_report(RequestNo(0)),
+        Some(RequestReport {
+            opened: EntryNo(3),
+            settled: None
+        })
+    );
+    let report = PortReport {
+        opened: EntryNo(1),
+        closed: Some(EntryNo(3)),
+        posted: 1,
+        taken: 0,
+    };
+    assert_eq!(rt; one.port_report(ChannelNo(0)), Some(report));
+    end(seven);
+    end(one);
 }
 
 /// Each reason of a host's end.
@@ -139,8 +127,7 @@ const REASONS: [Reason; 11] = [
 ];
 
 /// A native call that is refused, and each reason of a host's end.
-fn native_calls(alloc: Global) -> Option<Journal> {
-    let mut journal = Journal::new(alloc);
+fn add_native_calls(journal: &mut Journal, alloc: Global) -> Option<()> {
     let (who, host) = (Who::Context(ContextNo(2)), Who::Host(HostNo(7)));
     let call = Call::SendNative(name(alloc, "a b")?, json(alloc, "[]")?);
     let answer = Answer::BadHostName;
@@ -155,15 +142,16 @@ fn native_calls(alloc: Global) -> Option<Journal> {
             })
             .ok()?;
     }
-    Some(journal)
+    Some(())
 }
 
 const NATIVE_TEXT: &[u8] =
     b"wx journal 1 chrome\nc2 send_native 3:a b 2:[] -> bad_host_name\nh7 host_ended start_failed -> already\nh7 host_ended read_failed -> already\nh7 host_ended write_failed -> already\nh7 host_ended too_long 1048577 -> already\nh7 host_ended bad_json 2 syntax -> already\nh7 host_ended bad_json 0 utf8 -> already\nh7 host_ended bad_json 1024 too_deep -> already\nh7 host_ended bad_json 0 ends -> already\nh7 host_ended cut 5 -> already\nh7 host_ended exited -> already\nh7 host_ended closed -> already\n";
 
 #[test]
-fn native_text(rt: HostRuntime) -> Result<(), Fail> {
-    let journal = native_calls(rt.alloc()).ok_or("memory was refused")?;
+fn native_text(rt: HostRuntime) {
+    let mut journal = Journal::new(rt.alloc());
+    assert!(rt; add_native_calls(&mut journal, rt.alloc()).is_some());
     assert!(rt; prints(rt.alloc(), &journal, NATIVE_TEXT));
-    Ok(())
+    end(journal);
 }

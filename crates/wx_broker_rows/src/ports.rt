@@ -2,8 +2,8 @@
 ghost use Rattle.std.specs.Prelude.{◌≡◌, IsTrue, true, slice_get};
 ghost use Rattle.wx_port.specs.Port as spec;
 
+use std::alloc::Global;
 use std::process::Abort;
-use std::test::Fail;
 use wx_id::{ChannelNo, ContextNo, End};
 use wx_port::Ports;
 
@@ -88,21 +88,29 @@ const LEAVES: &[Row<'static>] = &[
     Row::Count(4),
 ];
 
-#[test]
-fn leaves(rt: HostRuntime) -> Result<(), Fail> {
-    let alloc = rt.alloc();
-    let mut ports = Ports::new(alloc);
-    for (opener, one, other) in [(7, 1, 2), (1, 2, 7), (2, 1, 7), (7, 2, 3)] {
-        let receivers = vec![in alloc; ContextNo(one), ContextNo(other)]?;
-        if opener == one || opener == other || one == other {
-            return Err("ends that are no channel's".into());
-        }
-        assert!(rt; ports.open(ContextNo(opener), receivers).is_ok());
+/// Opens a channel to these two receivers, and gives its number.
+fn open(ports: &mut Ports, alloc: Global, opener: u64, one: u64, other: u64) -> Option<u64> {
+    if opener == one || opener == other || one == other {
+        return None;
     }
-    for (i, row) in LEAVES.iter().enumerate() {
+    let receivers = vec![in alloc; ContextNo(one), ContextNo(other)].ok()?;
+    Some(ports.open(ContextNo(opener), receivers).ok()?.0)
+}
+
+/// Makes these calls, one after another, and ends the channels.
+fn play(rt: &impl Abort, mut ports: Ports, rows: &[Row]) {
+    for (i, row) in rows.iter().enumerate() {
         assert!(rt; holds(&mut ports, *row), "row {i}");
     }
-    Ok(())
+}
+
+#[test]
+fn leaves(rt: HostRuntime) {
+    let mut ports = Ports::new(rt.alloc());
+    for (opener, one, other) in [(7, 1, 2), (1, 2, 7), (2, 1, 7), (7, 2, 3)] {
+        assert!(rt; open(&mut ports, rt.alloc(), opener, one, other).is_some());
+    }
+    play(&rt, ports, LEAVES);
 }
 
 /// Each call at least once, in order.
@@ -150,22 +158,17 @@ const CALLS: &[Row<'static>] = &[
     Row::NextOf(1, 18_446_744_073_709_551_615, None),
 ];
 
+/// Opens three channels, the second without receivers, and gives their numbers.
+fn open_three(ports: &mut Ports, alloc: Global) -> Option<(u64, u64, u64)> {
+    let first = open(ports, alloc, 7, 1, 2)?;
+    let second = ports.open(ContextNo(1), Vec::new(alloc)).ok()?;
+    let third = open(ports, alloc, 2, 7, 1)?;
+    Some((first, second.0, third))
+}
+
 #[test]
-fn calls_and_their_answers(rt: HostRuntime) -> Result<(), Fail> {
-    let alloc = rt.alloc();
-    let mut ports = Ports::new(alloc);
-    let Ok(first) = ports.open(ContextNo(7), vec![in alloc; ContextNo(1), ContextNo(2)]?) else {
-        return Err("no memory".into());
-    };
-    let Ok(second) = ports.open(ContextNo(1), Vec::new(alloc)) else {
-        return Err("no memory".into());
-    };
-    let Ok(third) = ports.open(ContextNo(2), vec![in alloc; ContextNo(7), ContextNo(1)]?) else {
-        return Err("no memory".into());
-    };
-    assert!(rt; (first.0, second.0, third.0) == (0, 1, 2));
-    for (i, row) in CALLS.iter().enumerate() {
-        assert!(rt; holds(&mut ports, *row), "row {i}");
-    }
-    Ok(())
+fn calls_and_their_answers(rt: HostRuntime) {
+    let mut ports = Ports::new(rt.alloc());
+    assert_eq!(rt; open_three(&mut ports, rt.alloc()), Some((0, 1, 2)));
+    play(&rt, ports, CALLS);
 }

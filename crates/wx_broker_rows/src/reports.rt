@@ -2,7 +2,6 @@
 use crate::values::{json, name, push};
 use std::alloc::Global;
 use std::process::Abort;
-use std::test::Fail;
 use wx_id::{ChannelNo, ContextNo, EntryNo, Event, EventKind, HostNo, RequestNo};
 use wx_machine::{Answer, Call, Entry, Reason, Who};
 use wx_reports::{PortReport, RequestReport, Settled, port_report, request_report};
@@ -52,18 +51,16 @@ fn push_request(entries: &mut Vec<Entry>, alloc: Global, r: u64) -> Option<()> {
 
 /// Host 0 on a channel, and hosts 1 to 3 on requests: the first replies, the second does not start, and the asker
 /// leaves the third. The list is not legal, since the caller never comes in.
-fn entries(alloc: Global) -> Option<Vec<Entry>> {
-    let mut entries = Vec::new(alloc);
-    push_channel(&mut entries, alloc)?;
-    push_request(&mut entries, alloc, 0)?;
+fn push_all(entries: &mut Vec<Entry>, alloc: Global) -> Option<()> {
+    push_channel(entries, alloc)?;
+    push_request(entries, alloc, 0)?;
     let said = Call::HostSaid(json(alloc, "1")?);
-    push(&mut entries, host(1), said, Answer::Passed)?;
-    push_request(&mut entries, alloc, 1)?;
+    push(entries, host(1), said, Answer::Passed)?;
+    push_request(entries, alloc, 1)?;
     let end = Call::HostEnded(Reason::StartFailed);
-    push(&mut entries, host(2), end, Answer::Done)?;
-    push_request(&mut entries, alloc, 2)?;
-    push(&mut entries, CALLER, Call::Leave, Answer::Done)?;
-    Some(entries)
+    push(entries, host(2), end, Answer::Done)?;
+    push_request(entries, alloc, 2)?;
+    push(entries, CALLER, Call::Leave, Answer::Done)
 }
 
 /// The request, the entry that made it, and the entry that settled it, with how; none where there is no such request.
@@ -85,8 +82,9 @@ fn settled(opened: u64, entry: u64, way: Settled) -> RequestReport {
 }
 
 #[test]
-fn reports(rt: HostRuntime) -> Result<(), Fail> {
-    let entries = entries(rt.alloc()).ok_or("memory was refused")?;
+fn reports(rt: HostRuntime) {
+    let mut entries = Vec::new(rt.alloc());
+    assert!(rt; push_all(&mut entries, rt.alloc()).is_some());
     let port = PortReport {
         opened: EntryNo(0),
         closed: Some(EntryNo(6)),
@@ -102,5 +100,4 @@ fn reports(rt: HostRuntime) -> Result<(), Fail> {
         };
         assert_eq!(rt; request_report(&entries, RequestNo(r)), want);
     }
-    Ok(())
 }

@@ -1,7 +1,6 @@
 //! One-shot requests: calls of the list of requests and what they answer.
 use std::alloc::Global;
 use std::process::Abort;
-use std::test::Fail;
 use wx_id::{ContextNo, RequestNo};
 use wx_one_shot::{Requests, Standing};
 
@@ -172,13 +171,17 @@ const IN_ORDER: &[Step] = &[
     Step::Next(2, 0, None),
 ];
 
-#[test]
-fn calls_in_order(rt: HostRuntime) -> Result<(), Fail> {
-    let mut requests = Requests::new(rt.alloc());
-    for (i, step) in IN_ORDER.iter().enumerate() {
-        assert!(rt; goes(&mut requests, rt.alloc(), *step), "row {i}");
+/// Makes these calls, one after another.
+fn play(rt: &impl Abort, alloc: Global, steps: &[Step]) {
+    let mut requests = Requests::new(alloc);
+    for (i, step) in steps.iter().enumerate() {
+        assert!(rt; goes(&mut requests, alloc, *step), "row {i}");
     }
-    Ok(())
+}
+
+#[test]
+fn calls_in_order(rt: HostRuntime) {
+    play(&rt, rt.alloc(), IN_ORDER);
 }
 
 /// Who leaves, and what is left of the requests.
@@ -204,10 +207,6 @@ const LEAVES: &[Step] = &[
 ];
 
 #[test]
-fn leaves(rt: HostRuntime) -> Result<(), Fail> {
-    let mut requests = Requests::new(rt.alloc());
-    for (i, step) in LEAVES.iter().enumerate() {
-        assert!(rt; goes(&mut requests, rt.alloc(), *step), "row {i}");
-    }
-    Ok(())
+fn leaves(rt: HostRuntime) {
+    play(&rt, rt.alloc(), LEAVES);
 }
