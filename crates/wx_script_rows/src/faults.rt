@@ -1,5 +1,5 @@
 //! Faulty scenes: the first faulty line, and what is wrong with it.
-use crate::pages;
+use crate::{end, pages};
 use std::alloc::{AllocError, Global};
 use std::test::Fail;
 use wx_script::{Scene, SceneFault, SceneKind, SceneReadFault};
@@ -55,6 +55,17 @@ fn scene_text(alloc: Global, above: Above, below: &str) -> Result<String, AllocE
 
 /// What stands above, the lines of the case, the first faulty line, and what is wrong with it.
 type Case = (Above, &'static str, u64, SceneKind);
+
+/// What is wrong with the text of a scene.
+fn fault_of(alloc: Global, text: &str) -> Option<SceneReadFault> {
+    match Scene::read(alloc, text.as_bytes()) {
+        Ok(scene) => {
+            end(scene);
+            None
+        }
+        Err(fault) => Some(fault),
+    }
+}
 
 /// The first line is not the head line.
 fn head_lines() -> &'static [Case] {
@@ -507,7 +518,7 @@ fn first_faulty_lines(rt: HostRuntime) -> Result<(), Fail> {
     for cases in table {
         for (above, below, line, kind) in cases {
             let text = scene_text(rt.alloc(), *above, below)?;
-            let fault = Scene::read(rt.alloc(), text.as_bytes()).err();
+            let fault = fault_of(rt.alloc(), text.as_str());
             let expected = SceneFault {
                 line: *line,
                 kind: *kind,

@@ -13,6 +13,8 @@ mod scenes;
 
 #[cfg(test)]
 use std::alloc::{AllocError, Global};
+#[cfg(test)]
+use wx_script::Scene;
 
 /// The head line, an extension, and so many of its pages.
 #[cfg(test)]
@@ -26,6 +28,10 @@ fn pages(alloc: Global, count: u64) -> Result<String, AllocError> {
     }
     Ok(text)
 }
+
+/// Ends the scene: the drops of its parts are proved once, here.
+#[cfg(test)]
+fn end(_scene: Scene) {}
 
 /// Is compiled where values of the type may cross threads.
 #[cfg(test)]

@@ -1,5 +1,5 @@
 //! Scenes that are read.
-use crate::{crosses_threads, pages};
+use crate::{crosses_threads, end, pages};
 use std::alloc::Global;
 use std::test::Fail;
 use wx_context::Context;
@@ -21,7 +21,10 @@ fn read_after_head(alloc: Global, lines: &str) -> Result<Scene, SceneReadFault> 
 #[test]
 fn most_endpoints(rt: HostRuntime) -> Result<(), Fail> {
     match Scene::read(rt.alloc(), pages(rt.alloc(), 1024)?.as_bytes()) {
-        Ok(scene) => assert_eq!(rt; scene.endpoints().len(), 1024),
+        Ok(scene) => {
+            assert_eq!(rt; scene.endpoints().len(), 1024);
+            end(scene);
+        }
         Err(_) => assert!(rt; false),
     }
     Ok(())
@@ -34,7 +37,9 @@ fn sizes(read: Result<Scene, SceneReadFault>) -> Option<(u64, u64)> {
         Some(endpoint) => endpoint.script.len(),
         None => 0,
     };
-    Some((scene.endpoints().len() as u64, commands))
+    let endpoints = scene.endpoints().len() as u64;
+    end(scene);
+    Some((endpoints, commands))
 }
 
 const PAGE: &str = "wx scene 1 chrome\nextension x aaaaaaaaaaaaaaaaaaaaaaaaaaaaaaaa\npage p x /p\n";
@@ -189,6 +194,7 @@ fn two_pages(rt: HostRuntime) {
         }
         _ => assert!(rt; false),
     }
+    end(scene);
 }
 
 #[test]
@@ -215,6 +221,7 @@ fn awaits_echo_and_repeat(rt: HostRuntime) {
         },
         _ => assert!(rt; false),
     }
+    end(scene);
 }
 
 /// Files and their lines, the pages' kin, and variables of each sort.
@@ -254,6 +261,7 @@ fn files_documents_and_sorts_of_variables(rt: HostRuntime) {
         }
         _ => assert!(rt; false),
     }
+    end(scene);
 }
 
 /// A host that is started on a channel, and one that is asked; the names are any words.
@@ -282,6 +290,7 @@ fn natives(rt: HostRuntime) {
         },
         _ => assert!(rt; false),
     }
+    end(scene);
 }
 
 fn is_text(text: &Option<Utf8Text>, wanted: &str) -> bool {
