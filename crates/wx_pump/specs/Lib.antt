@@ -1,0 +1,3 @@
+pub mod Pumps
+pub mod Serving
+pub mod Paces
