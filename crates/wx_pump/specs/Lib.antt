@@ -1,3 +1,4 @@
 pub mod Pumps
 pub mod Serving
+pub mod Workers
 pub mod Paces

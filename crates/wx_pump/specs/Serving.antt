@@ -23,6 +23,9 @@ pub record Told : Type 0 where
   pub told : Option Bool
   pub key : List ℕ
 
+abbrev pub told_by : {D : Type 0} → (D → HostDeskState) → (D → Option Bool) → (D → List ℕ) → D → Told
+told_by state told key desk = record { state = state desk; told = told desk; key = key desk }
+
 -- the host ended as it could not be started, where that was told; else no entry was made
 abbrev pub TellsNotStarted : HostDeskState → HostDeskState → Bool → Type 0
 TellsNotStarted old new true = (answer : Answer) × MakesOne old new (HostEnded StartFailed) answer

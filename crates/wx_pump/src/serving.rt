@@ -4,7 +4,7 @@ ghost use Rattle.wx_machine.specs.declared.entries.TheConstants.{LONGEST_SAID};
 ghost use Rattle.wx_desk.specs.Desks.{IsSound};
 ghost use Rattle.wx_host_launch.specs.Records.{Starts};
 ghost use Rattle.wx_pump.specs.Pumps.{IsInPump, IsOutPump};
-ghost use Rattle.wx_pump.specs.Serving.{TellsNotStarted, start_came, IsServed};
+ghost use Rattle.wx_pump.specs.Serving.{TellsNotStarted, start_came, told_by, IsServed};
 
 use crate::pumps::{PumpEnd, pump_in, pump_out};
 use std::alloc::Global;
@@ -19,7 +19,9 @@ use wx_native_frame::FrameReader;
 #[derive(Drop)]
 pub enum Served<I: Drop, O: Drop> {
     /// Its program could not be started. Where that was told the host ended for it.
-    NotStarted { told: bool },
+    NotStarted {
+        told: bool,
+    },
     /// Memory was refused to the start.
     NoMemory,
     /// Its pumps ran, and stopped for these causes.
@@ -99,10 +101,8 @@ pub fn serve_host<R: Threads + Wait + Sync, P: Starter, D: HostDesk, B: Bell>(
     requires second { IsSound (D.state second.old) }
     ensures start { Starts (P.state starter.old) (P.state starter.new) path.now arguments.now (start_came result) }
     ensures served { IsServed P.In.state P.Out.state D.going (P.state starter.old).writing path.now
-        (record { state = D.state first.old; told = D.told first.old; key = D.key first.old })
-        (record { state = D.state first.new; told = D.told first.new; key = D.key first.new })
-        (record { state = D.state second.old; told = D.told second.old; key = D.key second.old })
-        (record { state = D.state second.new; told = D.told second.new; key = D.key second.new }) result }
+        (told_by D.state D.told D.key first.old) (told_by D.state D.told D.key first.new)
+        (told_by D.state D.told D.key second.old) (told_by D.state D.told D.key second.new) result }
     ensures sound_first { IsSound (D.state first.new) }
     ensures sound_second { IsSound (D.state second.new) }
     ensures same_first { D.key first.new ≡ D.key first.old }
