@@ -2,7 +2,7 @@
 ghost use Rattle.std.specs.Prelude.{◌≡◌, string_bytes};
 ghost use Rattle.wx_desk.specs.Desks.{IsSound};
 ghost use Rattle.wx_pump.specs.Serving.{told_by};
-ghost use Rattle.wx_pump.specs.Workers.{IsTaskDone, IsGood, task_in};
+ghost use Rattle.wx_pump.specs.Workers.{IsDone, IsGood, task_for, task_in};
 
 use crate::serving::{Served, serve_host};
 use std::alloc::Global;
@@ -33,19 +33,10 @@ pub struct HostPart<P: Starter, D: HostDesk + Drop> {
 }
 
 impl<P: Starter, D: HostDesk + Drop> Promise<HostDone<P, D>> for HostPart<P, D> {
-    ghost use Rattle.std.specs.Prelude.{string_bytes};
-    ghost use Rattle.wx_pump.specs.Serving.{told_by};
-    ghost use Rattle.wx_pump.specs.Workers.{IsTaskDone};
+    ghost use Rattle.wx_pump.specs.Workers.{IsDone, task_of};
 
-    ghost kept_by = { λ part done. IsTaskDone P.In.state P.Out.state D.going (record {
-      starter = P.state part.starter.value;
-      path = string_bytes part.path.value;
-      arguments = part.arguments.value;
-      first = told_by D.state D.told D.key part.first.value;
-      second = told_by D.state D.told D.key part.second.value;
-    })
-        (P.state done.starter) (told_by D.state D.told D.key done.first) (told_by D.state D.told D.key done.second)
-        done.came };
+    ghost kept_by = { λ part done.
+        IsDone P.state D.state D.told D.key P.In.state P.Out.state D.going (task_of P.state D.state D.told D.key part) done };
 }
 
 /// A worker: its thread, or what it brought where no thread could be had.
@@ -70,15 +61,9 @@ fn serve<R: Threads + Wait + Sync, P: Starter, D: HostDesk + Drop, B: Bell>(
 ) -> HostDone<P, D>
     requires first { IsSound (D.state first) }
     requires second { IsSound (D.state second) }
-    ensures { IsTaskDone P.In.state P.Out.state D.going (record {
-      starter = P.state starter;
-      path = string_bytes path.now;
-      arguments = arguments.now;
-      first = told_by D.state D.told D.key first;
-      second = told_by D.state D.told D.key second;
-    })
-        (P.state result.starter) (told_by D.state D.told D.key result.first)
-        (told_by D.state D.told D.key result.second) result.came }
+    ensures { IsDone P.state D.state D.told D.key P.In.state P.Out.state D.going
+        (task_for (P.state starter) (string_bytes path.now) arguments.now
+        (told_by D.state D.told D.key first) (told_by D.state D.told D.key second)) result }
 {
     let came = serve_host(
         rt,
@@ -122,14 +107,9 @@ pub fn start_host<
 ) -> HostWorker<P, D>
     requires first { IsSound (D.state first) }
     requires second { IsSound (D.state second) }
-    ensures good { IsGood P.In.state P.Out.state P.state D.state D.told D.key D.going result }
-    ensures task { task_in P.state D.state D.told D.key result ≡ record {
-      starter = P.state starter;
-      path = string_bytes path;
-      arguments = arguments;
-      first = told_by D.state D.told D.key first;
-      second = told_by D.state D.told D.key second;
-    } }
+    ensures good { IsGood P.state D.state D.told D.key P.In.state P.Out.state D.going result }
+    ensures task { task_in P.state D.state D.told D.key result ≡ task_for (P.state starter) (string_bytes path) arguments
+        (told_by D.state D.told D.key first) (told_by D.state D.told D.key second) }
 {
     let part = HostPart {
         starter: Snapshot::of(&starter),
@@ -149,15 +129,9 @@ pub fn start_host<
     let run = move || -> HostDone<P, D>
         requires first { IsSound (D.state first) }
         requires second { IsSound (D.state second) }
-        ensures { IsTaskDone P.In.state P.Out.state D.going (record {
-          starter = P.state starter;
-          path = string_bytes path;
-          arguments = arguments;
-          first = told_by D.state D.told D.key first;
-          second = told_by D.state D.told D.key second;
-        })
-            (P.state result.starter) (told_by D.state D.told D.key result.first)
-            (told_by D.state D.told D.key result.second) result.came }
+        ensures { IsDone P.state D.state D.told D.key P.In.state P.Out.state D.going
+            (task_for (P.state starter) (string_bytes path) arguments
+            (told_by D.state D.told D.key first) (told_by D.state D.told D.key second)) result }
     {
         serve(
             rt, alloc, starter, first, second, none, &path, &arguments, in_bell, out_bell,
@@ -174,10 +148,9 @@ pub fn finish_host<R: Threads, P: Starter, D: HostDesk + Drop>(
     rt: &R,
     worker: HostWorker<P, D>,
 ) -> HostDone<P, D>
-    requires { IsGood P.In.state P.Out.state P.state D.state D.told D.key D.going worker }
-    ensures { IsTaskDone P.In.state P.Out.state D.going (task_in P.state D.state D.told D.key worker)
-        (P.state result.starter) (told_by D.state D.told D.key result.first)
-        (told_by D.state D.told D.key result.second) result.came }
+    requires { IsGood P.state D.state D.told D.key P.In.state P.Out.state D.going worker }
+    ensures { IsDone P.state D.state D.told D.key P.In.state P.Out.state D.going
+        (task_in P.state D.state D.told D.key worker) result }
 {
     match worker {
         HostWorker::Runs(child) => child.join(rt),
@@ -208,15 +181,9 @@ fn serve_in<
 ) -> HostDone<P, D>
     requires first { IsSound (D.state first) }
     requires second { IsSound (D.state second) }
-    ensures { IsTaskDone P.In.state P.Out.state D.going (record {
-      starter = P.state starter;
-      path = string_bytes path;
-      arguments = arguments;
-      first = told_by D.state D.told D.key first;
-      second = told_by D.state D.told D.key second;
-    })
-        (P.state result.starter) (told_by D.state D.told D.key result.first)
-        (told_by D.state D.told D.key result.second) result.came }
+    ensures { IsDone P.state D.state D.told D.key P.In.state P.Out.state D.going
+        (task_for (P.state starter) (string_bytes path) arguments
+        (told_by D.state D.told D.key first) (told_by D.state D.told D.key second)) result }
 {
     let worker = start_host(
         scope, rt, alloc, starter, first, second, path, arguments, in_bell, out_bell,
@@ -238,15 +205,9 @@ pub fn serve_apart<'e, R: Threads + Wait + Sync, P: Starter + 'e, D: HostDesk + 
 ) -> HostDone<P, D>
     requires first { IsSound (D.state first) }
     requires second { IsSound (D.state second) }
-    ensures { IsTaskDone P.In.state P.Out.state D.going (record {
-      starter = P.state starter;
-      path = string_bytes path;
-      arguments = arguments;
-      first = told_by D.state D.told D.key first;
-      second = told_by D.state D.told D.key second;
-    })
-        (P.state result.starter) (told_by D.state D.told D.key result.first)
-        (told_by D.state D.told D.key result.second) result.came }
+    ensures { IsDone P.state D.state D.told D.key P.In.state P.Out.state D.going
+        (task_for (P.state starter) (string_bytes path) arguments
+        (told_by D.state D.told D.key first) (told_by D.state D.told D.key second)) result }
 {
     let none: Served<P::In, P::Out> = Served::NoMemory;
     thread::scope(
@@ -255,15 +216,9 @@ pub fn serve_apart<'e, R: Threads + Wait + Sync, P: Starter + 'e, D: HostDesk + 
         move |scope| -> HostDone<P, D>
             requires first { IsSound (D.state first) }
             requires second { IsSound (D.state second) }
-            ensures { IsTaskDone P.In.state P.Out.state D.going (record {
-              starter = P.state starter;
-              path = string_bytes path;
-              arguments = arguments;
-              first = told_by D.state D.told D.key first;
-              second = told_by D.state D.told D.key second;
-            })
-                (P.state result.starter) (told_by D.state D.told D.key result.first)
-                (told_by D.state D.told D.key result.second) result.came }
+            ensures { IsDone P.state D.state D.told D.key P.In.state P.Out.state D.going
+                (task_for (P.state starter) (string_bytes path) arguments
+                (told_by D.state D.told D.key first) (told_by D.state D.told D.key second)) result }
         {
             let _none = none;
             serve_in(
