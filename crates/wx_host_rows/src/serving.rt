@@ -168,6 +168,7 @@ const SERVED: [ServingRow; 8] = [
 ];
 
 #[test]
+#[tactic(auto, using(crate::proofs::DeskLemmas::desk_sound))]
 fn hosts_served(rt: HostRuntime) -> Result<(), Fail> {
     let alloc = rt.alloc();
     let bell = NoBell;
@@ -201,6 +202,7 @@ fn hosts_served(rt: HostRuntime) -> Result<(), Fail> {
 }
 
 #[test]
+#[tactic(auto, using(crate::proofs::DeskLemmas::desk_sound))]
 fn hosts_served_apart(rt: HostRuntime) -> Result<(), Fail> {
     let alloc = rt.alloc();
     let bell = NoBell;

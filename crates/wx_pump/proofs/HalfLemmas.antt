@@ -18,6 +18,7 @@ use Rattle.wx_desk.specs.Desks.{HostDeskState, past_of}
 use Rattle.wx_host_launch.specs.Pipes.{InState, OutState}
 use Rattle.wx_host_launch.specs.Reading.{IsReadingEnd}
 use Rattle.wx_host_launch.specs.Halves.{texts_of_takes, Sends, whole, in_part, ends_by_write, NoneEnds, EndsAsWriteFailed, EndsLast, TakesReady, IsInHalf, texts_said, EndsFor, IsCause, IsOutHalf}
+use Rattle.wx_host_launch.proofs.PipeLemmas.{added_twice}
 use Rattle.wx_host_launch.proofs.ReadingLemmas.{gives_more, end_from}
 use Rattle.wx_host_launch.proofs.StepLemmas.{calls-append, taken-append, said-append, each-append}
 use Rattle.wx_host_launch.proofs.KeepsLemmas.{ReadsOn, reads_on}
@@ -26,10 +27,6 @@ use Rattle.wx_pump.specs.Pumps.{TextsStay}
 use Rattle.wx_pump.proofs.PumpLemmas.{none_ends_append, past_between}
 
 -- The input
-
-pub added_twice : (s : Option (List ℕ)) (x y : List ℕ) → added (added s x) y ≡ added s (x ++ y)
-added_twice None x y = refl
-added_twice (Some s) x y = ap Some (append_assoc s x y)
 
 pub not_by_write : (cs : List Call) → NoneEnds cs → ends_by_write cs ≡ false
 not_by_write [] h = refl

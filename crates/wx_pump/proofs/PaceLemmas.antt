@@ -6,7 +6,6 @@ use Rattle.wx_machine.specs.declared.entries.Entry.{Entry}
 use Rattle.wx_machine.specs.Words.{is_by_host}
 use Rattle.wx_desk.specs.History.{Seen, entries_in}
 use Rattle.wx_host_slot.specs.Journals.{entries_of}
-use Rattle.wx_host_slot.specs.Slots.{host_limit}
 use Rattle.wx_pump.specs.Pumps.{Paced, begins, goes_on, halts, comes, makes}
 use Rattle.wx_pump.specs.Paces.{IsBelowLimit, AreBoth, EntriesAreFew}
 
@@ -34,7 +33,10 @@ same_entries h (x ∷ xs) [] b = absurd b
 -- what both may still make fits below the bound with what was made
 paced_both : (h : HostNo) (xs ys : List Seen) (m n : ℕ) → Paced 2 h (IsBelowLimit h) [] xs m → Paced 1 h (IsBelowLimit h) [] ys n → AreBoth h xs ys → entries_of h (entries_in xs ++ []) + m + n ≤ 65538
 paced_both h [] [] _ _ begins begins b = omega arith
-paced_both h xs ys _ n (goes_on g p) q b = let le = paced_most 1 h (IsBelowLimit h) [] ys n q in omega (arith, g, le)
+paced_both h xs ys _ n (goes_on g p) q b =
+    let le = paced_most 1 h (IsBelowLimit h) [] ys n q in
+    let few : entries_of h (entries_in xs ++ []) < 65536 = g in
+    omega (arith, few, le)
 paced_both h xs ys _ n (halts p) q b = let le = paced_both h xs ys _ n p q b in omega (arith, le)
 paced_both h xs ys m _ p (goes_on g q) b =
     let le = paced_most 2 h (IsBelowLimit h) [] xs m p in
@@ -52,8 +54,8 @@ paced_both h (x ∷ xs) (y ∷ ys) m n (makes own by p) (makes their to q) (b, e
 paced_both h [] (y ∷ ys) m n p q b = absurd b
 paced_both h (x ∷ xs) [] m n p q b = absurd b
 
-pub entries_are_few : EntriesAreFew
-entries_are_few h xs ys m n p q b =
+pub entries_few : EntriesAreFew
+entries_few h xs ys m n p q b =
     let le = paced_both h xs ys m n p q b in
-    let F : List Entry → Type 0 = λ es. entries_of h es ≤ host_limit + 2 in
+    let F : List Entry → Type 0 = λ es. entries_of h es ≤ 65538 in
     subst F (append-nil (entries_in xs)) (omega (arith, le))

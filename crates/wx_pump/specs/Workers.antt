@@ -47,7 +47,8 @@ module _ {P D I O : Type 0} (starter : P → StarterState) (state : D → HostDe
   task_in (Ran done part) = task_of part
 
   -- a worker brought back what its task left
-  abbrev pub IsDone : (I → InState) → (O → OutState) → (HostNo → List Entry → Type 0) → HostTask → HostDone P D I O → Type 0
+  abbrev pub IsDone : (I → InState) → (O → OutState) → (HostNo → List Entry → Type 0) → HostTask → HostDone P D I O
+      → Type 0
   IsDone input output going task done = IsTaskDone input output going task (starter done.starter)
       (told_by state told key done.first) (told_by state told key done.second) done.came
 

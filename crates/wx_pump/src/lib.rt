@@ -3,7 +3,6 @@
 #![tactic(auto)]
 
 mod pace;
-mod pace;
 mod pumps;
 mod serving;
 mod worker;

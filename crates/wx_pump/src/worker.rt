@@ -36,7 +36,8 @@ impl<P: Starter, D: HostDesk + Drop> Promise<HostDone<P, D>> for HostPart<P, D> 
     ghost use Rattle.wx_pump.specs.Workers.{IsDone, task_of};
 
     ghost kept_by = { λ part done.
-        IsDone P.state D.state D.told D.key P.In.state P.Out.state D.going (task_of P.state D.state D.told D.key part) done };
+        IsDone P.state D.state D.told D.key P.In.state P.Out.state D.going
+        (task_of P.state D.state D.told D.key part) done };
 }
 
 /// A worker: its thread, or what it brought where no thread could be had.
@@ -108,7 +109,8 @@ pub fn start_host<
     requires first { IsSound (D.state first) }
     requires second { IsSound (D.state second) }
     ensures good { IsGood P.state D.state D.told D.key P.In.state P.Out.state D.going result }
-    ensures task { task_in P.state D.state D.told D.key result ≡ task_for (P.state starter) (string_bytes path) arguments
+    ensures task { task_in P.state D.state D.told D.key result ≡
+        task_for (P.state starter) (string_bytes path) arguments
         (told_by D.state D.told D.key first) (told_by D.state D.told D.key second) }
 {
     let part = HostPart {

@@ -1,5 +1,5 @@
-use Rattle.wx_pump.proofs.PaceLemmas.{entries_are_few}
+use Rattle.wx_pump.proofs.PaceLemmas.{entries_few}
 use Rattle.wx_pump.proofs.pace.entries_are_few.Goals as goal
 
-pub returns-clause : goal.returns-clause
-returns-clause c = entries_are_few
+pub returns : goal.returns
+returns c = entries_few

@@ -5,7 +5,7 @@ use Rattle.wx_pump.proofs.pumps.pump_out.Goals as goal
 
 pub loop-init : goal.loop-init
 loop-init g c =
-    let w = c.wanted-_wanted in
+    let w = c.wanted-wanted in
     let (no_frame, keeps) = in_hand c.args.reader.now w.result c.requires.limit w.ensures.zero w.ensures.under_way w.ensures.first in
     record { sound = c.requires.sound; limit = c.requires.limit; so_far = (0, out_begins _ _ _ _ no_frame keeps); same_key = refl }
 
