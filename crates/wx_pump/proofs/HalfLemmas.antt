@@ -19,7 +19,7 @@ use Rattle.wx_host_launch.specs.Pipes.{InState, OutState}
 use Rattle.wx_host_launch.specs.Reading.{IsReadingEnd}
 use Rattle.wx_host_launch.specs.Halves.{texts_of_takes, Sends, whole, in_part, ends_by_write, NoneEnds, EndsAsWriteFailed, EndsLast, TakesReady, IsInHalf, texts_said, EndsFor, IsCause, IsOutHalf}
 use Rattle.wx_host_launch.proofs.PipeLemmas.{added_twice}
-use Rattle.wx_host_launch.proofs.ReadingLemmas.{gives_more, end_from}
+use Rattle.wx_host_launch.proofs.ReadingLemmas.{gives_more}
 use Rattle.wx_host_launch.proofs.StepLemmas.{calls-append, taken-append, said-append, each-append}
 use Rattle.wx_host_launch.proofs.KeepsLemmas.{ReadsOn, reads_on}
 use Rattle.wx_host_slot.proofs.PipeLemmas.{frames-append, sent_whole, split_on}
@@ -112,13 +112,13 @@ ends_map C D h past _ f e = tt
 -- a cause in what was read later is one in what was read in all
 cause_later : (A B : Type 0) (r w : List ℕ) (x y z : OutState) → (A → B) → x.faults ≤ y.faults → ((old new : OutState) (reason : Reason) → IsReadingEnd r old new reason → IsReadingEnd w old new reason) → (closed : Bool) (reason : Reason) → IsCause A r y z closed reason → IsCause B w x z closed reason
 cause_later A B r w x y z f le on closed Closed h = h
-cause_later A B r w x y z f le on closed StartFailed h = (f h.0, end_from w x y z StartFailed le (on y z StartFailed h.1))
-cause_later A B r w x y z f le on closed ReadFailed h = (f h.0, end_from w x y z ReadFailed le (on y z ReadFailed h.1))
-cause_later A B r w x y z f le on closed WriteFailed h = (f h.0, end_from w x y z WriteFailed le (on y z WriteFailed h.1))
-cause_later A B r w x y z f le on closed (TooLong n) h = (f h.0, end_from w x y z (TooLong n) le (on y z (TooLong n) h.1))
-cause_later A B r w x y z f le on closed (BadJson place kind) h = (f h.0, end_from w x y z (BadJson place kind) le (on y z (BadJson place kind) h.1))
-cause_later A B r w x y z f le on closed (Cut have) h = (f h.0, end_from w x y z (Cut have) le (on y z (Cut have) h.1))
-cause_later A B r w x y z f le on closed Exited h = (f h.0, end_from w x y z Exited le (on y z Exited h.1))
+cause_later A B r w x y z f le on closed StartFailed h = (f h.0, on y z StartFailed h.1)
+cause_later A B r w x y z f le on closed ReadFailed h = let (rose, none) = on y z ReadFailed h.1 in (f h.0, (rose_later x.faults y.faults z.faults le rose, none))
+cause_later A B r w x y z f le on closed WriteFailed h = (f h.0, on y z WriteFailed h.1)
+cause_later A B r w x y z f le on closed (TooLong n) h = (f h.0, on y z (TooLong n) h.1)
+cause_later A B r w x y z f le on closed (BadJson place kind) h = (f h.0, on y z (BadJson place kind) h.1)
+cause_later A B r w x y z f le on closed (Cut have) h = (f h.0, on y z (Cut have) h.1)
+cause_later A B r w x y z f le on closed Exited h = (f h.0, on y z Exited h.1)
 
 no_end : (C : Bool → Reason → Type 0) (h : HostNo) (past : List Entry) (call : Call) → is_host_end call ≡ false → EndsFor C h past call
 no_end C h past (HostEnded reason) e = absurd cc
