@@ -60,12 +60,22 @@ pub fn pump_both<R: Threads + Wait + Sync, D: HostDesk, I: HostIn, O: HostOut, B
 {
     join_mut(
         rt,
-        &mut ||
+        &mut || -> PumpEnd
             requires { IsSound (D.state first.now) }
+            ensures pump { IsInPump D.going (D.state first.entry.now) (D.state first.exit.now)
+                (I.state input.entry.now) (I.state input.exit.now) (D.told first.exit.now) result }
+            ensures sound { IsSound (D.state first.exit.now) }
+            ensures same_key { D.key first.exit.now ≡ D.key first.entry.now }
         { pump_in(rt, first, input, in_bell) },
-        &mut ||
+        &mut || -> PumpEnd
             requires sound { IsSound (D.state second.now) }
             requires limit { reader.now.limit ≡ LONGEST_SAID }
+            ensures pump { IsOutPump D.going (D.state second.entry.now) (D.state second.exit.now)
+                reader.entry.now reader.exit.now (O.state output.entry.now) (O.state output.exit.now)
+                (D.told second.exit.now) result }
+            ensures sound { IsSound (D.state second.exit.now) }
+            ensures limit { reader.exit.now.limit ≡ LONGEST_SAID }
+            ensures same_key { D.key second.exit.now ≡ D.key second.entry.now }
         { pump_out(rt, second, reader, output, out_bell) },
     )
 }
