@@ -1,5 +1,5 @@
 -- The pump of a host's input, turn after turn.
-use Rattle.std.proofs.Common.{◌≡◌, ℕ, ◌≤◌, List, [], ◌∷◌, ◌++◌, Bool, true, false, Option, Some, None, refl, ap, ◌∙◌, sym, subst, append_assoc, arith}
+use Rattle.std.proofs.Common.{◌≡◌, ℕ, ◌≤◌, List, [], ◌∷◌, ◌++◌, Bool, true, false, Option, Some, refl, ap, ◌∙◌, sym, subst, append_assoc, arith}
 use Rattle.std.proofs.lemmas.List.{append_cancel_right}
 use Rattle.wx_id.specs.declared.numbers.EntryNo.{EntryNo}
 use Rattle.wx_id.specs.declared.numbers.HostNo.{HostNo}
@@ -7,18 +7,16 @@ use Rattle.wx_machine.specs.declared.entries.Entry.{Entry}
 use Rattle.wx_machine.specs.declared.entries.Call.TheVariants.{HostTake, HostEnded}
 use Rattle.wx_machine.specs.declared.entries.Reason.TheVariants.{WriteFailed}
 use Rattle.wx_machine.specs.declared.entries.Answer.TheVariants.{Text as HasText, End as NoMore}
-use Rattle.wx_machine.specs.Words.{FollowsMachine, EachAfter}
 use Rattle.wx_desk.specs.History.{Seen, AreOthers}
 use Rattle.wx_desk.specs.Desks.{HostDeskState, IsSound, past_of, MakesNone, MakesOne, own_entry}
 use Rattle.wx_host_launch.specs.Pipes.{InState}
 use Rattle.wx_host_launch.specs.Halves.{whole, IsInHalf}
-use Rattle.wx_host_launch.specs.Steps.{TakesNews}
 use Rattle.wx_host_launch.specs.Turns.{IsInTurn, LacksMemory, at_once, behind_write}
 use Rattle.wx_host_launch.specs.declared.turns.InTurn.{InTurn}
 use Rattle.wx_host_launch.specs.declared.turns.InTurn.TheVariants as into
 use Rattle.wx_host_launch.proofs.TurnLemmas.{added_nothing, nothing_in}
 use Rattle.wx_host_launch.proofs.KeptLemmas.{IsSameDesk, same_one, same_in}
-use Rattle.wx_pump.specs.Pumps.{is_ended, is_stopped, is_refused, is_last, is_over, Paced, IsInPump}
+use Rattle.wx_pump.specs.Pumps.{is_ended, is_stopped, is_refused, is_over, Paced, IsInPump}
 use Rattle.wx_pump.specs.declared.pumps.PumpEnd.{PumpEnd}
 use Rattle.wx_pump.specs.declared.pumps.PumpEnd.TheVariants.{Ended, Stopped, NoMemory}
 use Rattle.wx_pump.proofs.PumpLemmas.{past_between, are_quiet, IsOne, one_made, is_one, paced_others, over_others, paced_one, over_one, texts_stay, GoesOn, on_begins, on_others, on_one, on_asked, by_its_host}

@@ -1,10 +1,9 @@
 -- Entries that a pump made at its desk, after others.
-use Rattle.std.proofs.Common.{◌≡◌, ℕ, ◌+◌, List, [], ◌∷◌, ◌++◌, Bool, true, false, cond, Option, Some, None, refl, ap, ◌∙◌, sym, subst, append_assoc}
+use Rattle.std.proofs.Common.{◌≡◌, ℕ, ◌+◌, List, [], ◌∷◌, ◌++◌, Bool, true, false, cond, refl, ap, ◌∙◌, sym, subst, append_assoc}
 use Rattle.std.specs.Prelude.{option_to_list}
 use Rattle.std.proofs.lemmas.Bool.{true≢false}
 use Rattle.std.proofs.lemmas.List.{map-append, append_cancel_right}
 use Rattle.wx_id.specs.declared.numbers.HostNo.{HostNo}
-use Rattle.wx_id.specs.declared.numbers.EntryNo.{EntryNo}
 use Rattle.wx_external.specs.World.{WorldLists}
 use Rattle.wx_machine.specs.declared.entries.Who.{Who}
 use Rattle.wx_machine.specs.declared.entries.Call.{Call}
@@ -13,7 +12,7 @@ use Rattle.wx_machine.specs.declared.entries.Entry.{Entry}
 use Rattle.wx_machine.specs.declared.entries.Who.TheVariants.{Host as ByHost}
 use Rattle.wx_machine.specs.declared.entries.Call.TheVariants.{HostTake}
 use Rattle.wx_machine.specs.declared.entries.Answer.TheVariants.{Text as HasText}
-use Rattle.wx_machine.specs.Words.{FollowsMachine, EachAfter, is_host_end, text_of, answer_after}
+use Rattle.wx_machine.specs.Words.{FollowsMachine, EachAfter, is_host_end, answer_after}
 use Rattle.wx_desk.specs.History.{Seen, entries_in, AreOthers, calls_in}
 use Rattle.wx_desk.specs.Desks.{HostDeskState, past_of, MakesNone, MakesOne, own_entry}
 use Rattle.wx_desk.proofs.HistoryLemmas.{others_first, others_rest}

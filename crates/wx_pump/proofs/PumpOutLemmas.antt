@@ -1,15 +1,14 @@
 -- The pump of a host's output, turn after turn.
-use Rattle.std.proofs.Common.{◌≡◌, ℕ, ◌≤◌, List, [], ◌∷◌, ◌++◌, Bool, true, false, Option, Some, None, refl, ap, ◌∙◌, sym, subst, append_assoc, arith}
+use Rattle.std.proofs.Common.{◌≡◌, ℕ, ◌≤◌, List, [], ◌++◌, Bool, true, false, Option, Some, refl, ap, ◌∙◌, sym, subst, append_assoc, arith}
 use Rattle.std.proofs.lemmas.List.{append-nil}
 use Rattle.wx_id.specs.declared.numbers.HostNo.{HostNo}
 use Rattle.wx_native_frame.specs.Frames.{Unfinished}
 use Rattle.wx_native_frame.specs.Splits.{IsSplit}
 use Rattle.wx_machine.specs.declared.entries.Call.{Call}
 use Rattle.wx_machine.specs.declared.entries.Entry.{Entry}
-use Rattle.wx_machine.specs.declared.entries.Who.TheVariants.{Host as ByHost}
 use Rattle.wx_machine.specs.declared.entries.Call.TheVariants.{HostSaid, HostEnded}
 use Rattle.wx_machine.specs.declared.entries.TheConstants.{LONGEST_SAID}
-use Rattle.wx_desk.specs.History.{Seen, entries_in, AreOthers, EachOwn}
+use Rattle.wx_desk.specs.History.{Seen, entries_in, EachOwn}
 use Rattle.wx_desk.specs.Desks.{HostDeskState, past_of, MakesNone, own_entry}
 use Rattle.wx_host_launch.specs.Pipes.{OutState}
 use Rattle.wx_host_launch.specs.Reading.{HasNoFrame, Keeps}
