@@ -1,0 +1,5 @@
+pub mod PumpLemmas
+pub mod HalfLemmas
+pub mod PumpInLemmas
+pub mod PumpOutLemmas
+pub mod PaceLemmas

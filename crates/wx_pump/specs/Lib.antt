@@ -1,0 +1,4 @@
+pub mod Pumps
+pub mod Serving
+pub mod Workers
+pub mod Paces
