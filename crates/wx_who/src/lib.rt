@@ -6,6 +6,8 @@ mod lines;
 mod reach;
 mod table;
 mod tabs;
+#[cfg(test)]
+mod tests;
 mod verdicts;
 
 pub use table::who;

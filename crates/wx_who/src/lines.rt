@@ -54,11 +54,7 @@ fn put_tab(out: &mut String, caller: &Caller<'_>, tab: TabId) -> Result<(), Allo
 }
 
 /// The line about a native host.
-fn put_host(
-    out: &mut String,
-    caller: &Caller<'_>,
-    host: &HostManifest,
-) -> Result<(), AllocError>
+fn put_host(out: &mut String, caller: &Caller<'_>, host: &HostManifest) -> Result<(), AllocError>
     ensures { OnOk result (string_bytes out.new
         ≡ string_bytes out.old ++ spec.line_text (record { caller = caller.now; asked = spec.host host.now })) }
 {

@@ -41,6 +41,12 @@ pub fn who(alloc: Global, scene: &Scene, world: &World) -> Result<Vec<u8>, NoMem
 {
     let tabs = tabs_of(alloc, scene.endpoints())?;
     let mut out = String::new(alloc);
-    put_table(&mut out, world, scene.extensions(), &tabs, scene.endpoints())?;
+    put_table(
+        &mut out,
+        world,
+        scene.extensions(),
+        &tabs,
+        scene.endpoints(),
+    )?;
     Ok(out.into_bytes())
 }

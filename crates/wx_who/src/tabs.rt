@@ -33,10 +33,7 @@ fn add_tab(tabs: &mut Vec<TabId>, tab: TabId) -> Result<(), AllocError>
 }
 
 /// The tabs in which these endpoints stand, rising and each once.
-pub(crate) fn tabs_of(
-    alloc: Global,
-    endpoints: &[SceneEndpoint],
-) -> Result<Vec<TabId>, AllocError>
+pub(crate) fn tabs_of(alloc: Global, endpoints: &[SceneEndpoint]) -> Result<Vec<TabId>, AllocError>
     ensures { IfOk result (λ tabs. tabs.items ≡ spec.tabs_of endpoints.now) }
 {
     let mut tabs = Vec::new(alloc);

@@ -74,7 +74,11 @@ pub(crate) fn put_reach(
 {
     match gate(caller.world, &caller.endpoint.context, target) {
         Verdict::Open { external } => {
-            out.push_str(if external { "open external to" } else { "open internal to" })?;
+            out.push_str(if external {
+                "open external to"
+            } else {
+                "open internal to"
+            })?;
             put_receivers(out, caller, target)
         }
         Verdict::BadTarget => out.push_str("bad_target"),
