@@ -2,6 +2,7 @@
 #![tactic(auto)]
 
 mod caller;
+mod laws;
 mod lines;
 mod reach;
 mod table;
@@ -10,4 +11,7 @@ mod tabs;
 mod tests;
 mod verdicts;
 
+pub use laws::{
+    from_outside_table, hosts_are_found, native_table, receives_where_named, tabs_rise,
+};
 pub use table::who;

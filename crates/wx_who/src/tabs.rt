@@ -1,5 +1,5 @@
 //! The tabs in which the endpoints of a scene stand.
-ghost use Rattle.std.specs.Prelude.{◌≡◌, IfOk, OnOk};
+ghost use Rattle.std.specs.Prelude.{◌≡◌, IfOk, OnOk, slice_get};
 ghost use Rattle.wx_who.specs.Tabs as spec;
 
 use std::alloc::{AllocError, Global};
@@ -17,19 +17,33 @@ fn tab_of(x: &Context) -> Option<TabId>
     }
 }
 
+/// How many of the tabs in front have a lower number.
+fn below(tabs: &[TabId], tab: TabId) -> usize
+    ensures { result ≡ spec.below tab tabs.now }
+{
+    tabs.iter().take_while(|t| t.0 < tab.0).count()
+}
+
+/// Whether the tab stands at that place.
+fn stands_at(tabs: &[TabId], place: usize, tab: TabId) -> bool
+    ensures { result ≡ spec.is_tab tab (slice_get tabs.now place) }
+{
+    match tabs.get(place) {
+        Some(t) => *t == tab,
+        None => false,
+    }
+}
+
 /// Puts a tab at its place among rising ones, where it is not there.
+#[tactic(auto, using(crate::proofs::TabLemmas::with_tab_is, crate::proofs::TabLemmas::below_le))]
 fn add_tab(tabs: &mut Vec<TabId>, tab: TabId) -> Result<(), AllocError>
     ensures { OnOk result (tabs.new.items ≡ spec.with_tab tab tabs.old.items) }
 {
-    match tabs.iter().position(|t| t.0 >= tab.0) {
-        Some(place) => {
-            if tabs[place] != tab {
-                tabs.insert(place, tab)?;
-            }
-            Ok(())
-        }
-        None => Ok(tabs.push(tab)?),
+    let place = below(tabs, tab);
+    if stands_at(tabs, place, tab) {
+        return Ok(());
     }
+    Ok(tabs.insert(place, tab)?)
 }
 
 /// The tabs in which these endpoints stand, rising and each once.
