@@ -1,6 +1,6 @@
 -- The text of a caller's lines, piece by piece.
 use Rattle.std.proofs.Common.{◌≡◌, ◌<◌, ℕ, ◌+◌, List, [], ◌∷◌, ◌++◌, ◌∙◌, refl, sym, ap, map, take, drop, get_or, length, append_assoc, map-append}
-use Rattle.std.specs.Prelude.{cond, false, true, Bool, ◌||◌}
+use Rattle.std.specs.Prelude.{cond, ◌||◌, codes}
 use Rattle.std.proofs.lemmas.List.{append_nil, drop_more, take_more}
 use Rattle.std.proofs.lemmas.List.Concat.{flat_map-append}
 use Rattle.std.proofs.lemmas.List.Elements.{filter-append}
@@ -17,9 +17,9 @@ use Rattle.wx_who.specs.Reach.{Caller, is_for, names_text, receivers, receivers_
 use Rattle.wx_who.specs.Table.{Asked, Line, own, extension, tab, host, all_asked, line_text, lines_behind, lines_of, lines_text}
 
 -- the lines about some, and about more
-pub lines-append : (caller : Caller) (xs ys : List Asked) →
+pub lines_append : (caller : Caller) (xs ys : List Asked) →
     lines_text (lines_of caller (xs ++ ys)) ≡ lines_text (lines_of caller xs) ++ lines_text (lines_of caller ys)
-lines-append caller xs ys = simp (map-append, flat_map-append)
+lines_append caller xs ys = simp (map-append, flat_map-append)
 
 -- the lines about those of a sort, and about one more
 pub lines_more : {X : Type 0} (caller : Caller) (f : X → Asked) (xs : List X) (i : ℕ) (x : X) → i < length xs → get_or xs i x ≡ x →
@@ -42,7 +42,14 @@ pub lines_from : (world : WorldLists) (all : List Asked) (es : List SceneEndpoin
 lines_from world all es i e h same = rw (drop_more es i e h, take_more es i e h, same) (flat_map-append line_text _ _)
 
 -- the names of those before and of those behind
-pub names-append : (x : Context) (target : Target) (before behind : List SceneEndpoint) →
+pub names_append : (x : Context) (target : Target) (before behind : List SceneEndpoint) →
     names_text (receivers x target (before ++ behind))
     ≡ names_text (receivers x target before) ++ names_text (receivers x target behind)
-names-append x target before behind = simp (filter-append, flat_map-append)
+names_append x target before behind = simp (filter-append, flat_map-append)
+
+-- the receivers among those before and those behind
+pub receivers_parts : (x : Context) (target : Target) (before behind : List SceneEndpoint) →
+    receivers_text x target (before ++ behind)
+    ≡ cond (list_any (is_for x target) before || list_any (is_for x target) behind)
+    (names_text (receivers x target before) ++ names_text (receivers x target behind)) (codes " -")
+receivers_parts x target before behind = rw (list_any-append (is_for x target) before behind, names_append x target before behind) refl

@@ -68,6 +68,7 @@ fn put_host(out: &mut String, caller: &Caller<'_>, host: &HostManifest) -> Resul
 }
 
 /// A line about each of the extensions.
+#[tactic(auto, using(crate::proofs::LineLemmas::lines_more))]
 fn put_extensions(
     out: &mut String,
     caller: &Caller<'_>,
@@ -83,6 +84,7 @@ fn put_extensions(
 }
 
 /// A line about each of the tabs.
+#[tactic(auto, using(crate::proofs::LineLemmas::lines_more))]
 fn put_tabs(out: &mut String, caller: &Caller<'_>, tabs: &[TabId]) -> Result<(), AllocError>
     ensures { OnOk result (string_bytes out.new ≡ string_bytes out.old
         ++ spec.lines_text (spec.lines_of caller.now (map spec.tab tabs.now))) }
@@ -94,6 +96,7 @@ fn put_tabs(out: &mut String, caller: &Caller<'_>, tabs: &[TabId]) -> Result<(),
 }
 
 /// A line about each of the hosts.
+#[tactic(auto, using(crate::proofs::LineLemmas::lines_more))]
 fn put_hosts(
     out: &mut String,
     caller: &Caller<'_>,
@@ -109,6 +112,7 @@ fn put_hosts(
 }
 
 /// The lines of the caller: about its own extension, then the extensions, the tabs and the hosts of its world.
+#[tactic(auto, using(crate::proofs::LineLemmas::all_lines))]
 pub(crate) fn put_lines(
     out: &mut String,
     caller: &Caller<'_>,

@@ -11,6 +11,7 @@ use wx_id::{NoMemory, TabId};
 use wx_script::{Scene, SceneEndpoint, SceneExtension};
 
 /// The lines of each of the endpoints.
+#[tactic(auto, using(crate::proofs::LineLemmas::lines_from))]
 fn put_table(
     out: &mut String,
     world: &World,

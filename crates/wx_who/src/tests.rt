@@ -125,42 +125,39 @@ const Y_MANIFEST: &[u8] =
 const HOST: &[u8] =
     br#"{"name":"e","description":"d","path":"/bin/echo","type":"stdio","allowed_origins":["chrome-extension://aaaaaaaaaaaaaaaaaaaaaaaaaaaaaaaa/"]}"#;
 
-/// A world of one extension with that manifest, and the host `e`.
-fn world_of(alloc: Global, id: &[u8], manifest: &[u8]) -> Result<World, Fail> {
-    let id = ExtensionId::read(id)?;
+/// A scene, the id of the extension with a manifest and that manifest, if there is one, and the table.
+const TABLES: [(&str, Option<(&[u8], &[u8])>, &str); 3] = [
+    (FROM_OUTSIDE, None, FROM_OUTSIDE_TABLE),
+    (
+        NATIVE,
+        Some((b"aaaaaaaaaaaaaaaaaaaaaaaaaaaaaaaa", X_MANIFEST)),
+        NATIVE_TABLE,
+    ),
+    (
+        TABS,
+        Some((b"bbbbbbbbbbbbbbbbbbbbbbbbbbbbbbbb", Y_MANIFEST)),
+        TABS_TABLE,
+    ),
+];
+
+/// A world of one extension with that manifest, and the host `e`; or one that holds nothing.
+fn world_of(alloc: Global, given: Option<(&[u8], &[u8])>) -> Result<World, Fail> {
     let mut world = World::new(alloc);
-    world.add_extension(id, Extension::read(alloc, manifest)?)?;
-    world.add_host(HostManifest::read(alloc, "e.json", HOST)?)?;
+    if let Some((id, manifest)) = given {
+        world.add_extension(ExtensionId::read(id)?, Extension::read(alloc, manifest)?)?;
+        world.add_host(HostManifest::read(alloc, "e.json", HOST)?)?;
+    }
     Ok(world)
 }
 
-fn table_of(alloc: Global, scene: &str, world: &World) -> Result<Vec<u8>, Fail> {
-    let scene = Scene::read(alloc, scene.as_bytes())?;
-    Ok(who(alloc, &scene, world)?)
-}
-
 #[test]
-fn from_outside(rt: HostRuntime) -> Result<(), Fail> {
+fn worked_tables(rt: HostRuntime) -> Result<(), Fail> {
     let alloc = rt.alloc();
-    let table = table_of(alloc, FROM_OUTSIDE, &World::new(alloc))?;
-    assert_eq!(rt; str::from_utf8(&table), Ok(FROM_OUTSIDE_TABLE));
-    Ok(())
-}
-
-#[test]
-fn native_host(rt: HostRuntime) -> Result<(), Fail> {
-    let alloc = rt.alloc();
-    let world = world_of(alloc, b"aaaaaaaaaaaaaaaaaaaaaaaaaaaaaaaa", X_MANIFEST)?;
-    let table = table_of(alloc, NATIVE, &world)?;
-    assert_eq!(rt; str::from_utf8(&table), Ok(NATIVE_TABLE));
-    Ok(())
-}
-
-#[test]
-fn tabs_rise(rt: HostRuntime) -> Result<(), Fail> {
-    let alloc = rt.alloc();
-    let world = world_of(alloc, b"bbbbbbbbbbbbbbbbbbbbbbbbbbbbbbbb", Y_MANIFEST)?;
-    let table = table_of(alloc, TABS, &world)?;
-    assert_eq!(rt; str::from_utf8(&table), Ok(TABS_TABLE));
+    for (scene, given, expected) in TABLES.iter() {
+        let scene = Scene::read(alloc, scene.as_bytes())?;
+        let world = world_of(alloc, *given)?;
+        let table = who(alloc, &scene, &world)?;
+        assert_eq!(rt; str::from_utf8(&table), Ok(*expected));
+    }
     Ok(())
 }

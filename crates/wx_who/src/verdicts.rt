@@ -36,6 +36,7 @@ fn put_name_if(
 }
 
 /// The names of those whom it is for.
+#[tactic(auto, using(crate::proofs::LineLemmas::names_append))]
 fn put_names(
     out: &mut String,
     x: &Context,
@@ -52,16 +53,18 @@ fn put_names(
 }
 
 /// Those who would receive what the caller sends to the target, or a dash.
+#[tactic(auto, using(crate::proofs::LineLemmas::receivers_parts))]
 fn put_receivers(out: &mut String, caller: &Caller<'_>, target: &Target) -> Result<(), AllocError>
     ensures { OnOk result (string_bytes out.new
         ≡ string_bytes out.old ++ spec.receivers_text caller.now.endpoint.context target.now caller.now.others) }
 {
     let x = &caller.endpoint.context;
-    if !is_for_any(x, target, caller.before) && !is_for_any(x, target, caller.behind) {
-        return out.push_str(" -");
+    if is_for_any(x, target, caller.before) || is_for_any(x, target, caller.behind) {
+        put_names(out, x, target, caller.before)?;
+        put_names(out, x, target, caller.behind)
+    } else {
+        out.push_str(" -")
     }
-    put_names(out, x, target, caller.before)?;
-    put_names(out, x, target, caller.behind)
 }
 
 /// What comes of the caller's calls to the target.
