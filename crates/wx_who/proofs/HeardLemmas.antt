@@ -75,4 +75,4 @@ pub receives : (es : List SceneEndpoint) (c d : ℕ) (x y : SceneEndpoint) (targ
     → is_receiver (listeners es (length es)) (numbered c) target sort (numbered d) ≡ (not (d == c) && is_for x.context target y)
 receives es c d x y target sort at_c at_d =
     let c_below = below_length es c x at_c in let d_below = below_length es d y at_d in
-    rw (context_there es (length es) c x c_below at_c, context_there es (length es) d y d_below at_d, nobody_left es (length es) d, all_listen es (length es) d y d_below at_d, reached x.context y.context target sort) refl
+    rw (context_there es (length es) c x c_below at_c, context_there es (length es) d y d_below at_d, nobody_left es (length es) d, all_listen es (length es) d y d_below at_d, reached x.context y.context target sort) (grind (arith, nat_tests))

@@ -1,7 +1,7 @@
 -- The text of a caller's lines, piece by piece.
-use Rattle.std.proofs.Common.{◌≡◌, ◌<◌, ℕ, ◌+◌, List, [], ◌∷◌, ◌++◌, ◌∙◌, refl, sym, ap, map, take, drop, get_or, length, append_assoc, map-append}
+use Rattle.std.proofs.Common.{◌≡◌, ◌<◌, ℕ, ◌+◌, List, [], ◌∷◌, ◌++◌, ◌∙◌, refl, sym, ap, map, take, drop, get_or, length}
 use Rattle.std.specs.Prelude.{cond, ◌||◌, codes}
-use Rattle.std.proofs.lemmas.List.{append_nil, drop_more, take_more}
+use Rattle.std.proofs.lemmas.List.{append-nil, drop_more, map-append, take_more}
 use Rattle.std.proofs.lemmas.List.Concat.{flat_map-append}
 use Rattle.std.proofs.lemmas.List.Elements.{filter-append}
 use Rattle.std.proofs.lemmas.List.Folds.{list_any-append}
@@ -25,7 +25,7 @@ lines_append caller xs ys = simp (map-append, flat_map-append)
 pub lines_more : {X : Type 0} (caller : Caller) (f : X → Asked) (xs : List X) (i : ℕ) (x : X) → i < length xs → get_or xs i x ≡ x →
     lines_text (lines_of caller (map f (take (i + 1) xs)))
     ≡ lines_text (lines_of caller (map f (take i xs))) ++ line_text (record { caller = caller; asked = f x })
-lines_more caller f xs i x h e = rw (take_more xs i x h, e) (simp (map-append, flat_map-append, append_nil))
+lines_more caller f xs i x h e = rw (take_more xs i x h, e) (simp (map-append, flat_map-append, append-nil))
 
 -- the lines about all that a caller asks about
 pub all_lines : (caller : Caller) (xs : List SceneExtension) (ts : List TabId) (hs : List Host) →
