@@ -1,18 +1,18 @@
 -- The journal in which all listen.
-use Rattle.std.proofs.Common.{◌≡◌, ◌<◌, ◌≤◌, ◌⊎◌, ℕ, zero, suc, List, length, refl, sym, arith, Bool, true, false, cond}
-use Rattle.std.specs.Prelude.{Option, Some, None, slice_get, not, ◌&&◌, ◌||◌, ◌==◌}
+use Rattle.std.proofs.Common.{◌≡◌, ◌<◌, ◌≤◌, ℕ, zero, suc, List, length, refl, arith, Bool, true, false}
+use Rattle.std.specs.Prelude.{Option, Some, None, slice_get, not, ◌&&◌, ◌==◌}
 use Rattle.std.proofs.lemmas.Bool.Decides.{nat_tests}
 use Rattle.std.proofs.lemmas.Option.{slice_get_cases}
 use Rattle.wx_context.specs.declared.contexts.Context.{Context}
 use Rattle.wx_context.specs.declared.contexts.Target.{Target}
-use Rattle.wx_context.specs.declared.contexts.Target.TheVariants.{Own, Other, Tab}
 use Rattle.wx_external.specs.Gate.{meant}
 use Rattle.wx_machine.specs.declared.sorts.Sort.{Sort}
 use Rattle.wx_machine.specs.declared.sorts.Sort.TheVariants.{Connection, Message}
 use Rattle.wx_machine.specs.declared.entries.Entry.{Entry}
-use Rattle.wx_machine.specs.Contexts.{context_of, extension_of, has_left, hears, is_external, is_live, is_receiver, listens_of, names, reaches_from}
+use Rattle.wx_machine.specs.Contexts.{context_of, extension_of, has_left, hears, is_external, is_receiver, listens_of, names, reaches_from}
 use Rattle.wx_script.specs.declared.scene.SceneEndpoint.{SceneEndpoint}
-use Rattle.wx_who.specs.Heard.{everything, listeners, numbered, with_listener}
+use Rattle.wx_script.specs.Ends.{numbered}
+use Rattle.wx_who.specs.Heard.{everything, listeners, with_listener}
 use Rattle.wx_who.specs.Reach.{is_for}
 
 -- one more that comes in is no earlier context, and says nothing for one

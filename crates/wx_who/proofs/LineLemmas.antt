@@ -1,11 +1,11 @@
 -- The text of a caller's lines, piece by piece.
-use Rattle.std.proofs.Common.{◌≡◌, ◌<◌, ℕ, ◌+◌, List, [], ◌∷◌, ◌++◌, ◌∙◌, refl, sym, ap, map, take, drop, get_or, length}
+use Rattle.std.proofs.Common.{◌≡◌, ◌<◌, ℕ, ◌+◌, List, ◌++◌, refl, map, take, drop, get_or, length}
 use Rattle.std.specs.Prelude.{cond, ◌||◌, codes}
 use Rattle.std.proofs.lemmas.List.{append-nil, drop_more, map-append, take_more}
 use Rattle.std.proofs.lemmas.List.Concat.{flat_map-append}
 use Rattle.std.proofs.lemmas.List.Elements.{filter-append}
 use Rattle.std.proofs.lemmas.List.Folds.{list_any-append}
-use Rattle.std.specs.List.{filter, flat_map, list_any}
+use Rattle.std.specs.List.{list_any}
 use Rattle.wx_context.specs.declared.contexts.Context.{Context}
 use Rattle.wx_context.specs.declared.contexts.Target.{Target}
 use Rattle.wx_external.specs.World.{WorldLists}
@@ -14,12 +14,7 @@ use Rattle.wx_id.specs.declared.numbers.TabId.{TabId}
 use Rattle.wx_script.specs.declared.scene.SceneEndpoint.{SceneEndpoint}
 use Rattle.wx_script.specs.declared.scene.SceneExtension.{SceneExtension}
 use Rattle.wx_who.specs.Reach.{Caller, is_for, names_text, receivers, receivers_text}
-use Rattle.wx_who.specs.Table.{Asked, Line, own, extension, tab, host, all_asked, line_text, lines_behind, lines_of, lines_text}
-
--- the lines about some, and about more
-pub lines_append : (caller : Caller) (xs ys : List Asked) →
-    lines_text (lines_of caller (xs ++ ys)) ≡ lines_text (lines_of caller xs) ++ lines_text (lines_of caller ys)
-lines_append caller xs ys = simp (map-append, flat_map-append)
+use Rattle.wx_who.specs.Table.{Asked, own, extension, tab, host, all_asked, line_text, lines_behind, lines_of, lines_text}
 
 -- the lines about those of a sort, and about one more
 pub lines_more : {X : Type 0} (caller : Caller) (f : X → Asked) (xs : List X) (i : ℕ) (x : X) → i < length xs → get_or xs i x ≡ x →

@@ -1,9 +1,8 @@
 -- A tab put at its place among rising ones.
-use Rattle.std.proofs.Common.{◌≡◌, ◌≢◌, ◌<◌, ◌≤◌, ℕ, ◌+◌, List, [], ◌∷◌, ◌++◌, ◌∙◌, refl, sym, ap, take, drop, get_or, length, arith, Bool, true, false, cond}
-use Rattle.std.specs.List.{insert, prefix_len, list_any, list_all, fold}
+use Rattle.std.proofs.Common.{◌≡◌, ◌≤◌, ℕ, List, [], ◌∷◌, refl, length, arith, Bool, true, cond}
+use Rattle.std.specs.List.{insert, list_any, list_all, fold}
 use Rattle.std.specs.Prelude.{nat_lt, ◌==◌, ◌||◌, slice_get, Option, Some, None}
 use Rattle.std.proofs.lemmas.Bool.Decides.{nat_tests}
-use Rattle.std.proofs.lemmas.Grind.{common_steps}
 use Rattle.std.proofs.lemmas.List.Sums.{prefix_len-le-length}
 use Rattle.wx_id.specs.declared.numbers.TabId.{TabId}
 use Rattle.wx_script.specs.declared.scene.SceneEndpoint.{SceneEndpoint}

@@ -1,6 +1,5 @@
 -- A journal in which the endpoints of a scene have come in, and each listens to everything.
 use Rattle.std.specs.Prelude.{◌≡◌, ℕ, zero, suc, List, [], ◌∷◌, length, Option, Some, None, true, not, ◌&&◌, ◌==◌, slice_get}
-use Rattle.wx_id.specs.declared.numbers.ContextNo.{ContextNo}
 use Rattle.wx_context.specs.declared.contexts.Listens.{Listens}
 use Rattle.wx_context.specs.declared.contexts.Target.{Target}
 use Rattle.wx_machine.specs.declared.sorts.Sort.{Sort}
@@ -10,13 +9,11 @@ use Rattle.wx_machine.specs.declared.entries.Call.TheVariants.{Enter, Listen}
 use Rattle.wx_machine.specs.declared.entries.Answer.TheVariants.{Entered, Done}
 use Rattle.wx_machine.specs.Contexts.{is_receiver}
 use Rattle.wx_script.specs.declared.scene.SceneEndpoint.{SceneEndpoint}
+use Rattle.wx_script.specs.Ends.{numbered}
 use Rattle.wx_who.specs.Reach.{is_for}
 
 abbrev pub everything : Listens
 everything = record { connect = true; message = true; external_connect = true; external_message = true }
-
-abbrev pub numbered : ℕ → ContextNo
-numbered n = record { 0 = n }
 
 -- the journal, newest entry first, after an endpoint came in as context n and said that it listens to everything
 abbrev pub with_listener : ℕ → Option SceneEndpoint → List Entry → List Entry

@@ -1,6 +1,6 @@
 -- What comes of a call from an endpoint of a scene to a target, whoever listens: the gate's verdict, and who would
 -- receive it.
-use Rattle.std.specs.Prelude.{ℕ, List, [], ◌∷◌, ◌++◌, Bool, true, false, Option, None, filter, flat_map, codes, if◌then◌else◌}
+use Rattle.std.specs.Prelude.{ℕ, List, ◌++◌, Bool, true, false, filter, flat_map, codes, if◌then◌else◌}
 use Rattle.std.specs.List.{list_any}
 use Rattle.wx_context.specs.declared.contexts.Context.{Context}
 use Rattle.wx_context.specs.declared.contexts.Target.{Target}

@@ -1,5 +1,5 @@
 -- The table of reach of a scene in a world: who may reach whom, and by which rule, whoever listens.
-use Rattle.std.specs.Prelude.{ℕ, List, [], ◌∷◌, ◌++◌, Option, None, map, flat_map, decimal, codes}
+use Rattle.std.specs.Prelude.{ℕ, List, [], ◌∷◌, ◌++◌, None, map, flat_map, decimal, codes}
 use Rattle.wx_id.specs.declared.numbers.TabId.{TabId}
 use Rattle.wx_context.specs.declared.contexts.Target.TheVariants.{Own, Other, Tab}
 use Rattle.wx_host_manifest.specs.HostManifests.{Host}

@@ -1,7 +1,5 @@
 -- Worked tables, computed.
-use Rattle.std.specs.Prelude.{◌≡◌, ℕ, List, [], ◌∷◌, ◌++◌, codes, Some, None, true}
-use Rattle.wx_id.specs.declared.numbers.FrameId.{FrameId}
-use Rattle.wx_id.specs.declared.numbers.TabId.{TabId}
+use Rattle.std.specs.Prelude.{◌≡◌, ℕ, List, [], ◌∷◌, ◌++◌, codes, None, true}
 use Rattle.wx_context.specs.declared.contexts.Context.{Context}
 use Rattle.wx_context.specs.declared.contexts.Context.TheVariants.{Page, Web}
 use Rattle.wx_external.specs.World.{WorldLists, empty_world}

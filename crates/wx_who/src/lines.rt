@@ -29,7 +29,8 @@ fn put_extension(
     extension: &SceneExtension,
 ) -> Result<(), AllocError>
     ensures { OnOk result (string_bytes out.new
-        ≡ string_bytes out.old ++ spec.line_text (record { caller = caller.now; asked = spec.extension extension.now })) }
+        ≡ string_bytes out.old
+        ++ spec.line_text (record { caller = caller.now; asked = spec.extension extension.now })) }
 {
     out.push_str(caller.endpoint.name.as_str())?;
     out.push_str(" ext ")?;
