@@ -1,0 +1,4 @@
+pub mod HeardLemmas
+pub mod HostLemmas
+pub mod LineLemmas
+pub mod TabLemmas
