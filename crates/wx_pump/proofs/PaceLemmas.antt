@@ -7,7 +7,7 @@ use Rattle.wx_machine.specs.Words.{is_by_host}
 use Rattle.wx_desk.specs.History.{Seen, entries_in}
 use Rattle.wx_host_slot.specs.Journals.{entries_of}
 use Rattle.wx_pump.specs.Pumps.{Paced, begins, goes_on, halts, comes, makes}
-use Rattle.wx_pump.specs.Paces.{IsBelowLimit, AreBoth, GoesBelowLimit, EntriesAreFew}
+use Rattle.wx_pump.specs.Paces.{IsBelowLimit, AreBoth, EntriesAreFew}
 
 paced_most : (most : ℕ) (h : HostNo) (going : List Entry → Type 0) (past : List Entry) (xs : List Seen) (n : ℕ) → Paced most h going past xs n → n ≤ most
 paced_most most h going past [] _ begins = omega arith
@@ -54,15 +54,8 @@ paced_both h (x ∷ xs) (y ∷ ys) m n (makes own by p) (makes their to q) (b, e
 paced_both h [] (y ∷ ys) m n p q b = absurd b
 paced_both h (x ∷ xs) [] m n p q b = absurd b
 
-paced_for : (most : ℕ) (h : HostNo) (going less : List Entry → Type 0) (past : List Entry) (xs : List Seen) (n : ℕ) → ((es : List Entry) → going es → less es) → Paced most h going past xs n → Paced most h less past xs n
-paced_for most h going less past [] _ f begins = begins
-paced_for most h going less past xs _ f (goes_on g p) = goes_on (f (entries_in xs ++ past) g) (paced_for most h going less past xs _ f p)
-paced_for most h going less past xs _ f (halts p) = halts (paced_for most h going less past xs _ f p)
-paced_for most h going less past (s ∷ xs) n f (comes own p) = comes own (paced_for most h going less past xs n f p)
-paced_for most h going less past (s ∷ xs) n f (makes own by p) = makes own by (paced_for most h going less past xs (n + 1) f p)
-
-pub entries_few : (going : HostNo → List Entry → Type 0) → GoesBelowLimit going → EntriesAreFew going
-entries_few going below h xs ys m n p q b =
-    let le = paced_both h xs ys m n (paced_for 2 h (going h) (IsBelowLimit h) [] xs m (below h) p) (paced_for 1 h (going h) (IsBelowLimit h) [] ys n (below h) q) b in
+pub entries_few : EntriesAreFew
+entries_few h xs ys m n p q b =
+    let le = paced_both h xs ys m n p q b in
     let F : List Entry → Type 0 = λ es. entries_of h es ≤ 65538 in
     subst F (append-nil (entries_in xs)) (omega (arith, le))

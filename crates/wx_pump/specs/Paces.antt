@@ -19,11 +19,7 @@ AreBoth h (x ∷ xs) (y ∷ ys) = AreBoth h xs ys × (x.entry ≡ y.entry)
     × (x.own ≡ false → y.own ≡ false → is_by_host x.entry.who h ≡ false)
 AreBoth h _ _ = ⊥
 
--- what is known where a pump is told to go on tells that its host is below the limit
-abbrev pub GoesBelowLimit : (HostNo → List Entry → Type 0) → Type 0
-GoesBelowLimit going = (h : HostNo) (past : List Entry) → going h past → IsBelowLimit h past
-
--- A host makes at most two entries more than the limit by its two pumps, whatever others do.
-abbrev pub EntriesAreFew : (HostNo → List Entry → Type 0) → Type 0
-EntriesAreFew going = (h : HostNo) (first second : List Seen) (m n : ℕ) → Paced 2 h (going h) [] first m
-    → Paced 1 h (going h) [] second n → AreBoth h first second → entries_of h (entries_in first) ≤ host_limit + 2
+-- A host whose two pumps go on only while it is below the limit makes at most two entries more, whatever others do.
+abbrev pub EntriesAreFew : Type 0
+EntriesAreFew = (h : HostNo) (first second : List Seen) (m n : ℕ) → Paced 2 h (IsBelowLimit h) [] first m
+    → Paced 1 h (IsBelowLimit h) [] second n → AreBoth h first second → entries_of h (entries_in first) ≤ host_limit + 2

@@ -2,4 +2,4 @@ use Rattle.wx_pump.proofs.PaceLemmas.{entries_few}
 use Rattle.wx_pump.proofs.pace.entries_are_few.Goals as goal
 
 pub returns : goal.returns
-returns g c = entries_few g.D.HostDesk.going c.requires
+returns c = entries_few
