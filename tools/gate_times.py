@@ -288,6 +288,9 @@ def write_table():
 
 def main():
     words = sys.argv[1:]
+    if words[:1] in (["-h"], ["--help"]):
+        print(__doc__.strip())
+        return 0
     signal.signal(signal.SIGTERM, signal.default_int_handler)
     if words[:1] == ["table"]:
         write_table()
