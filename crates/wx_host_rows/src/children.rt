@@ -18,7 +18,7 @@ fn types_cross_threads(_rt: HostRuntime) {
 }
 
 /// The words for a host that the extension of 32 letters `a` starts.
-pub(crate) fn arguments(alloc: Global) -> Option<Arguments> {
+fn arguments(alloc: Global) -> Option<Arguments> {
     let bytes =
         br#"{"name":"e","description":"d","path":"/bin/e","type":"stdio","allowed_origins":[]}"#;
     let manifest = HostManifest::read(alloc, "e.json", bytes).ok()?;
@@ -27,12 +27,7 @@ pub(crate) fn arguments(alloc: Global) -> Option<Arguments> {
 }
 
 /// A child that writes five bytes; the calls with this number fail.
-pub(crate) fn child(
-    alloc: Global,
-    starts: &[u64],
-    reads: &[u64],
-    writes: &[u64],
-) -> Option<MemoryChild> {
+fn child(alloc: Global, starts: &[u64], reads: &[u64], writes: &[u64]) -> Option<MemoryChild> {
     Some(MemoryChild {
         path: String::from_str(alloc, "/bin/e").ok()?,
         writes: Vec::from_slice(alloc, b"\x01\0\0\01").ok()?,

@@ -1,13 +1,11 @@
-//! The tests of native hosts: the turns of both pumps at a desk of tests, the service of a host by both, and
-//! the starter in memory, by public calls: tables of rows, each walked in one loop.
+//! The tests of native hosts: the turns of both pumps at a desk of tests, and the starter in memory, by public calls:
+//! tables of rows, each walked in one loop.
 #![tactic(auto)]
 
 #[cfg(test)]
 mod children;
 #[cfg(test)]
 mod pumps;
-#[cfg(test)]
-mod serving;
 mod test_desk;
 
 pub use test_desk::{Stage, TestDesk};

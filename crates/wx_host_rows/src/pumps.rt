@@ -13,7 +13,7 @@ use wx_machine::{LONGEST_SAID, Reason};
 use wx_native_frame::FrameReader;
 
 /// A desk at this stage.
-pub(crate) fn desk_at(alloc: Global, stage: Stage) -> Option<TestDesk>
+fn desk_at(alloc: Global, stage: Stage) -> Option<TestDesk>
     ensures { IfSome result (λ desk. IsSound (state_at desk.stage desk.ended)) }
 {
     let text = JsonText::new(Vec::from_slice(alloc, b"1").ok()?).ok()?;
